@@ -11,22 +11,27 @@ use Rattle.seat_lock.specs.Story.{made_by}
 use Rattle.seat_lock.proofs.Prefixes.{prefix-length, prefix-self, prefix-trans}
 
 -- those of one history behind another
-pub numbers_from-append : (number next : ℕ) (xs ys : List Commit) → numbers_from number next (xs ++ ys) ≡ numbers_from number next xs ++ numbers_from number (next + length xs) ys
+pub numbers_from-append : (number next : ℕ) (xs ys : List Commit)
+    → numbers_from number next (xs ++ ys) ≡ numbers_from number next xs ++ numbers_from number (next + length xs) ys
 numbers_from-append number next [] ys = ap (λ n. numbers_from number n ys) (omega arith)
 numbers_from-append number next (x ∷ xs) ys =
     by (nat_eq x.handle number) (numbers_from-append number (next + 1) xs ys ∙ ap (λ n. numbers_from number (next + 1) xs ++ numbers_from number n ys) (omega arith))
   where
-    by : (b : Bool) → numbers_from number (next + 1) (xs ++ ys) ≡ numbers_from number (next + 1) xs ++ numbers_from number (next + length (x ∷ xs)) ys
+    by : (b : Bool)
+        → numbers_from number (next + 1) (xs ++ ys)
+        ≡ numbers_from number (next + 1) xs ++ numbers_from number (next + length (x ∷ xs)) ys
         → cond b (next ∷ numbers_from number (next + 1) (xs ++ ys)) (numbers_from number (next + 1) (xs ++ ys))
         ≡ cond b (next ∷ numbers_from number (next + 1) xs) (numbers_from number (next + 1) xs) ++ numbers_from number (next + length (x ∷ xs)) ys
     by true rest = ap (λ (l : List ℕ). next ∷ l) rest
     by false rest = rest
 
-pub numbers-one : (number next : ℕ) (commit : Commit) → commit.handle ≡ number → numbers_from number next (commit ∷ []) ≡ next ∷ []
+pub numbers-one : (number next : ℕ) (commit : Commit) → commit.handle ≡ number
+    → numbers_from number next (commit ∷ []) ≡ next ∷ []
 numbers-one number next commit own = ap (λ (b : Bool). cond b (next ∷ []) []) (eq-eqb commit.handle number own)
 
 -- who made no entry made no commit
-pub numbers-none : (number next : ℕ) (log : List Told) → made_by maker_of number log ≡ [] → numbers_from number next (commits_of log) ≡ []
+pub numbers-none : (number next : ℕ) (log : List Told) → made_by maker_of number log ≡ []
+    → numbers_from number next (commits_of log) ≡ []
 numbers-none number next [] none = refl
 numbers-none number next (Opened opening ∷ log) none = numbers-none number next log (left-out _ _ _ none).1
 numbers-none number next (Committed made ∷ log) none =
@@ -37,7 +42,9 @@ numbers-none number next (Failed made ∷ log) none = numbers-none number next l
 numbers-none number next (Refused handle ∷ log) none = numbers-none number next log (left-out _ _ _ none).1
 
 -- who sees more, and made nothing more, has the same
-pub numbers-same : (number : ℕ) (seen found : List Told) → IsPrefix seen found → made_by maker_of number found ≡ made_by maker_of number seen → numbers_by number (commits_of found) ≡ numbers_by number (commits_of seen)
+pub numbers-same : (number : ℕ) (seen found : List Told) → IsPrefix seen found
+    → made_by maker_of number found ≡ made_by maker_of number seen
+    → numbers_by number (commits_of found) ≡ numbers_by number (commits_of seen)
 numbers-same number seen found p same =
     ap (λ (log : List Told). numbers_by number (commits_of log)) (sym p.1)
     ∙ ap (numbers_by number) (commits-append seen p.0)
@@ -46,7 +53,8 @@ numbers-same number seen found p same =
     ∙ append-nil (numbers_by number (commits_of seen))
 
 -- who has seen more of the story has seen no fewer commits
-pub longer-commits : (seen longer : List Told) → IsPrefix seen longer → length (commits_of seen) ≤ length (commits_of longer)
+pub longer-commits : (seen longer : List Told) → IsPrefix seen longer
+    → length (commits_of seen) ≤ length (commits_of longer)
 longer-commits seen longer p = prefix-length (commits_of seen) (commits_of longer) (commits-prefix seen longer p)
 
 -- ---- a handle that made nothing
@@ -61,9 +69,16 @@ pub since-self : (handle : HandleValue) → IsSince handle handle
 since-self handle = record { number = refl; seen = prefix-self handle.seen; own = refl }
 
 pub since-trans : (old mid new : HandleValue) → IsSince old mid → IsSince mid new → IsSince old new
-since-trans old mid new one two = record { number = two.number ∙ one.number; seen = prefix-trans old.seen mid.seen new.seen one.seen two.seen; own = two.own ∙ one.own }
+since-trans old mid new one two =
+    record {
+      number = two.number ∙ one.number;
+      seen = prefix-trans old.seen mid.seen new.seen one.seen two.seen;
+      own = two.own ∙ one.own;
+    }
 
 -- so it has no new commits
-pub numbers-since : (old new : HandleValue) → old.own ≡ made_by maker_of old.number old.seen → new.own ≡ made_by maker_of new.number new.seen → IsSince old new
+pub numbers-since : (old new : HandleValue) → old.own ≡ made_by maker_of old.number old.seen
+    → new.own ≡ made_by maker_of new.number new.seen → IsSince old new
     → numbers_by old.number (commits_of new.seen) ≡ numbers_by old.number (commits_of old.seen)
-numbers-since old new was is since = numbers-same old.number old.seen new.seen since.seen (ap (λ (n : ℕ). made_by maker_of n new.seen) (sym since.number) ∙ sym is ∙ since.own ∙ was)
+numbers-since old new was is since =
+    numbers-same old.number old.seen new.seen since.seen (ap (λ (n : ℕ). made_by maker_of n new.seen) (sym since.number) ∙ sym is ∙ since.own ∙ was)

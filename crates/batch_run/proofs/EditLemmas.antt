@@ -47,9 +47,11 @@ module _ (formats : Formats) {F : Type 0} (lock : Place Told) (plan : Plan F) (o
   -- an edit, or no memory for it
   pub edit-goes : (edited : KeyMap) → IsReady lock plan old before
       → ((told : ℕ) (watching : Option Watching)
-      → Edits edited (session_of old (held before watching) told) answer (session_of old (record { working = after; watching = watching }) told) ⊎ Lacks reply.Memory (session_of old (held before watching) told) answer (session_of old (record { working = after; watching = watching }) told)
+      → Edits edited (session_of old (held before watching) told) answer (session_of old (record { working = after; watching = watching }) told)
+      ⊎ Lacks reply.Memory (session_of old (held before watching) told) answer (session_of old (record { working = after; watching = watching }) told)
       → Means formats plan.mounted (proc_of old.rec) old.number (commits_of old.seen) (session_of old (held before watching) told) step answer (session_of old (record { working = after; watching = watching }) told))
-      → IsEdit edited before.keys after answer → GoesOn formats lock plan (step ∷ []) (answer ∷ []) old before old (record before { keys = after })
+      → IsEdit edited before.keys after answer
+      → GoesOn formats lock plan (step ∷ []) (answer ∷ []) old before old (record before { keys = after })
   edit-goes edited is means (inl done) =
       let with_set : ℕ → Option Watching → KeyMap → Session = λ told watching keys. session_of old (record { working = keys; watching = watching }) told in
       stays is (subst IsSilent (sym done.0) (record { numbers = refl; failures = refl; refusals = refl }))
@@ -59,8 +61,10 @@ module _ (formats : Formats) {F : Type 0} (lock : Place Told) (plan : Plan F) (o
       stays is (subst IsSilent (sym none.0) (record { numbers = refl; failures = refl; refusals = refl }))
       (λ told watching. means told watching (inr (record { reply_is = none.0; new_is = ap (with_set told watching) none.1 })))
 
-pub look-goes : (formats : Formats) {F : Type 0} (lock : Place Told) (plan : Plan F) (old : HandleValue) (before : Workspace) (name : Name) (answer : Reply) → IsReady lock plan old before
-    → IsLook (found (specified before.keys) name) answer → GoesOn formats lock plan (Look name ∷ []) (answer ∷ []) old before old before
+pub look-goes : (formats : Formats) {F : Type 0} (lock : Place Told) (plan : Plan F) (old : HandleValue)
+    (before : Workspace) (name : Name) (answer : Reply) → IsReady lock plan old before
+    → IsLook (found (specified before.keys) name) answer
+    → GoesOn formats lock plan (Look name ∷ []) (answer ∷ []) old before old before
 look-goes formats lock plan old before name answer is (inl told) =
     stays formats lock plan old before before.keys (Look name) answer is (subst IsSilent (sym told) (silent_look (found (specified before.keys) name))) (λ n watching. inl (record { reply_is = told; new_is = refl }))
 look-goes formats lock plan old before name answer is (inr none) =

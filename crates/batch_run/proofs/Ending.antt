@@ -52,30 +52,46 @@ use Rattle.store_phases.specs.Stores.{IsStore}
 pub record AreDone (formats : Formats) {F : Type 0} (lock : Place Told) (plan : Plan F) (script : Script) (handles : List HandleValue) (transcripts : Option Transcripts) : Type 0 where
   pub back : AreBack lock plan (length handles) handles
   pub many : IfSome transcripts (λ told. length handles ≡ length (sessions_of script))
-  pub fair : (history : List Commit) → Closes (length handles) history handles → IfSome transcripts (IsFairScript formats plan.mounted history script)
+  pub fair : (history : List Commit) → Closes (length handles) history handles
+      → IfSome transcripts (IsFairScript formats plan.mounted history script)
   pub counts : IfSome transcripts (TellOwn script handles)
   pub none : transcripts ≡ None → (i : ℕ) (d : HandleValue) → i < length handles → (get_or handles i d).own ≡ []
 
 -- what holds of transcripts, if there are some
-if-any : {P : Transcripts → Type 0} (transcripts : Option Transcripts) → ((told : Transcripts) → P told) → IfSome transcripts P
+if-any : {P : Transcripts → Type 0} (transcripts : Option Transcripts) → ((told : Transcripts) → P told)
+    → IfSome transcripts P
 if-any None each = tt
 if-any (Some told) each = each told
 
 -- what holds of them by two facts
-if-both : {P Q R : Transcripts → Type 0} (transcripts : Option Transcripts) → IfSome transcripts P → IfSome transcripts Q → ((told : Transcripts) → P told → Q told → R told) → IfSome transcripts R
+if-both : {P Q R : Transcripts → Type 0} (transcripts : Option Transcripts) → IfSome transcripts P
+    → IfSome transcripts Q → ((told : Transcripts) → P told → Q told → R told) → IfSome transcripts R
 if-both None p q both = tt
 if-both (Some told) p q both = both told p q
 
 module _ (formats : Formats) {F : Type 0} (lock : Place Told) (plan : Plan F) (script : Script) where
-  fresh-back : (handles : List HandleValue) → AreFresh lock plan (procs_of script) handles → AreBack lock plan (length handles) handles
-  fresh-back handles fresh = record { many = refl; each = λ i d lt. (fresh i d lt).handle_is; numbers = λ i d lt. (fresh i d lt).number_is }
+  fresh-back : (handles : List HandleValue) → AreFresh lock plan (procs_of script) handles
+      → AreBack lock plan (length handles) handles
+  fresh-back handles fresh =
+      record { many = refl; each = λ i d lt. (fresh i d lt).handle_is; numbers = λ i d lt. (fresh i d lt).number_is }
 
   -- handles that were just opened made nothing
-  pub fresh-done : (handles : List HandleValue) → AreFresh lock plan (procs_of script) handles → AreDone formats lock plan script handles None
-  fresh-done handles fresh = record { back = fresh-back handles fresh; many = tt; fair = λ history closes. tt; counts = tt; none = λ is i d lt. (fresh i d lt).own }
+  pub fresh-done : (handles : List HandleValue) → AreFresh lock plan (procs_of script) handles
+      → AreDone formats lock plan script handles None
+  fresh-done handles fresh =
+      record {
+        back = fresh-back handles fresh;
+        many = tt;
+        fair = λ history closes. tt;
+        counts = tt;
+        none = λ is i d lt. (fresh i d lt).own;
+      }
 
-  pub run-done : (given handles : List HandleValue) (transcripts : Option Transcripts) → AreFresh lock plan (procs_of script) given → length given ≡ length (sessions_of script) → AreBack lock plan (length given) handles
-      → ((history : List Commit) → Closes (length given) history handles → IfSome transcripts (IsFairScript formats plan.mounted history script)) → IfSome transcripts (TellOwn script handles)
+  pub run-done : (given handles : List HandleValue) (transcripts : Option Transcripts)
+      → AreFresh lock plan (procs_of script) given → length given ≡ length (sessions_of script)
+      → AreBack lock plan (length given) handles
+      → ((history : List Commit) → Closes (length given) history handles → IfSome transcripts (IsFairScript formats plan.mounted history script))
+      → IfSome transcripts (TellOwn script handles)
       → (transcripts ≡ None → handles ≡ given) → AreDone formats lock plan script handles transcripts
   run-done given handles transcripts fresh many back fair counts kept = record {
     back = subst (λ (n : ℕ). AreBack lock plan n handles) (sym back.many) back;
@@ -93,15 +109,19 @@ module _ (formats : Formats) {D P : Type 0} (g : Ghosts D) (refused : P → ℕ)
   story = is_closed.rest
 
   -- what the handle of a place made is what the story has of its number
-  made-at : (i : ℕ) (d : HandleValue) → i < length handles → made_by maker_of (i + 1) (Opened opening ∷ story) ≡ (get_or handles i d).own
-  made-at i d lt = ap (λ (n : ℕ). made_by maker_of n (Opened opening ∷ story)) (sym (back.numbers i d lt)) ∙ is_closed.own i d lt
+  made-at : (i : ℕ) (d : HandleValue) → i < length handles
+      → made_by maker_of (i + 1) (Opened opening ∷ story) ≡ (get_or handles i d).own
+  made-at i d lt =
+      ap (λ (n : ℕ). made_by maker_of n (Opened opening ∷ story)) (sym (back.numbers i d lt)) ∙ is_closed.own i d lt
 
   -- nobody made the opening
-  made-behind : (number : ℕ) → made_by maker_of (number + 1) (Opened opening ∷ story) ≡ made_by maker_of (number + 1) story
+  made-behind : (number : ℕ)
+      → made_by maker_of (number + 1) (Opened opening ∷ story) ≡ made_by maker_of (number + 1) story
   made-behind number =
       ap (λ (b : Bool). cond b (Opened opening ∷ made_by maker_of (number + 1) story) (made_by maker_of (number + 1) story)) (ne_eqb 0 (number + 1) (λ e. omega (arith, e)))
 
-  made-there : (i : ℕ) (d : HandleValue) → i < length handles → made_by maker_of (i + 1) story ≡ (get_or handles i d).own
+  made-there : (i : ℕ) (d : HandleValue) → i < length handles
+      → made_by maker_of (i + 1) story ≡ (get_or handles i d).own
   made-there i d lt = sym (made-behind i) ∙ made-at i d lt
 
   -- so its history ends what each handle has seen
@@ -132,7 +152,8 @@ module _ (formats : Formats) {D P : Type 0} (g : Ghosts D) (refused : P → ℕ)
 
   module _ (script : Script) (told : Transcripts) (many : length handles ≡ length (sessions_of script)) (counts : TellOwn script handles told) where
     -- what is counted of all handles is what is counted of all replies
-    told-all : (made : List Told → ℕ) (w : Reply → ℕ) → made story ≡ total (λ i. made (made_by maker_of (i + 1) story)) (length handles)
+    told-all : (made : List Told → ℕ) (w : Reply → ℕ)
+        → made story ≡ total (λ i. made (made_by maker_of (i + 1) story)) (length handles)
         → ((i : ℕ) (d : HandleValue) → i < length handles → made (get_or handles i d).own ≡ sum_by w (of_session i (reply_rows script told)))
         → made story ≡ sum_by (λ row. sum_by (λ answers. sum_by w answers) row) (reply_rows script told)
     told-all made w all each =
@@ -143,10 +164,12 @@ module _ (formats : Formats) {D P : Type 0} (g : Ghosts D) (refused : P → ℕ)
         ∙ sym (rows-total w (length handles) rows (subst (λ (n : ℕ). AreNarrow n rows) (sym many) (reply-rows_narrow (sessions_of script) script.phases told.phases)))
 
     failures-are : failures_in story ≡ count_failed (reply_rows script told)
-    failures-are = told-all failures_in failures_told (failures-all (length handles) story is_closed.only) (λ i d lt. (counts i d lt).failures)
+    failures-are =
+        told-all failures_in failures_told (failures-all (length handles) story is_closed.only) (λ i d lt. (counts i d lt).failures)
 
     refusals-are : refusals_in story ≡ count_refused (reply_rows script told)
-    refusals-are = told-all refusals_in refusals_told (refusals-all (length handles) story is_closed.only) (λ i d lt. (counts i d lt).refusals)
+    refusals-are =
+        told-all refusals_in refusals_told (refusals-all (length handles) story is_closed.only) (λ i d lt. (counts i d lt).refusals)
 
 -- ---- the close
 
@@ -158,8 +181,10 @@ module _ (formats : Formats) {D P : Type 0} (g : Ghosts D) (code : Coded D) (ref
   pub journal_is : (opening_in lock.start).journal ≡ (coded_journal code).code core.journal
   journal_is = ap (λ (o : Opening). o.journal) opening_is
 
-  pub played : (script : Script) (handles : List HandleValue) (transcripts : Option Transcripts) (closed : Closed D P) → AreDone formats lock plan script handles transcripts
-      → IsClosed formats g refused plan.mounted core.journal (opening_in lock.start) (length handles) handles closed → IsPlayed formats g refused plan.mounted script core (record { closed = closed; transcripts = transcripts })
+  pub played : (script : Script) (handles : List HandleValue) (transcripts : Option Transcripts) (closed : Closed D P)
+      → AreDone formats lock plan script handles transcripts
+      → IsClosed formats g refused plan.mounted core.journal (opening_in lock.start) (length handles) handles closed
+      → IsPlayed formats g refused plan.mounted script core (record { closed = closed; transcripts = transcripts })
   played script handles transcripts closed done is_closed =
       let story : List Told = is_closed.rest in record {
         story = story;
@@ -177,7 +202,9 @@ module _ (formats : Formats) {D P : Type 0} (g : Ghosts D) (code : Coded D) (ref
       }
 
 -- a store that was never shared has the empty story
-pub unplayed : (formats : Formats) {D P : Type 0} (g : Ghosts D) (refused : P → ℕ) (files : List MountedFile) (script : Script) (core : Core D P) (closed : Closed D P) → StandsIn formats (store_at files) core (λ r. no_record) (λ p. None) first_world
+pub unplayed : (formats : Formats) {D P : Type 0} (g : Ghosts D) (refused : P → ℕ) (files : List MountedFile)
+    (script : Script) (core : Core D P) (closed : Closed D P)
+    → StandsIn formats (store_at files) core (λ r. no_record) (λ p. None) first_world
     → closed.history ≡ core.history → closed.patterns ≡ core.patterns
     → (core.wrote ≡ false → IsFresh core.journal → closed.disk ≡ core.journal.disk)
     → ((start : D) (run : Run) → IsStore g start core.journal run → ¬ HasRisen (g.faults core.journal.disk) (g.faults closed.disk) → SameFiles (g.seen closed.disk) (files_of run))

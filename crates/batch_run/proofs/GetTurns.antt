@@ -35,9 +35,12 @@ session_with told holds rec = record { working = holds.working; rec = rec; told 
 module _ (formats : Formats) {F : Type 0} (lock : Place Told) (plan : Plan F) (parent : Name) (old new : HandleValue) (before : Workspace) (was : IsReady lock plan old before) (is : IsHandle lock plan new)
     (number : new.number ≡ old.number) (procs : proc_of new.rec ≡ proc_of old.rec) (seen : IsPrefix old.seen new.seen) (own : new.own ≡ old.own) where
   same_own : numbers_by old.number (commits_of new.seen) ≡ numbers_by old.number (commits_of old.seen) ++ []
-  same_own = numbers-since old new was.handle_is.own is.own (record { number = number; seen = seen; own = own }) ∙ sym (append-nil (numbers_by old.number (commits_of old.seen)))
+  same_own =
+      numbers-since old new was.handle_is.own is.own (record { number = number; seen = seen; own = own })
+      ∙ sym (append-nil (numbers_by old.number (commits_of old.seen)))
 
-  got-goes : (got : Got) → Gives (store_of plan.mounted (λ r. proc_of old.rec)) (commits_of new.seen) old.number parent (record_of old.rec) (record_of new.rec) got
+  got-goes : (got : Got)
+      → Gives (store_of plan.mounted (λ r. proc_of old.rec)) (commits_of new.seen) old.number parent (record_of old.rec) (record_of new.rec) got
       → GoesOn formats lock plan (Get parent ∷ []) (reply.Got got.front (length (map.entries got.keys)) ∷ []) old before new (record before { keys = got.keys })
   got-goes got gives =
       let history : List Commit = commits_of new.seen in
@@ -57,7 +60,8 @@ module _ (formats : Formats) {F : Type 0} (lock : Place Told) (plan : Plan F) (p
       same_own
       (omega (arith, ap failures_in own)) (omega (arith, ap refusals_in own))
 
-  ungot-goes : (why : GetFault) → IsRefused (store_of plan.mounted (λ r. proc_of old.rec)) plan.mounted parent why → record_of new.rec ≡ record_of old.rec
+  ungot-goes : (why : GetFault) → IsRefused (store_of plan.mounted (λ r. proc_of old.rec)) plan.mounted parent why
+      → record_of new.rec ≡ record_of old.rec
       → GoesOn formats lock plan (Get parent ∷ []) (reply.GetRefused why ∷ []) old before new before
   ungot-goes why refused kept =
       goes-keys formats lock plan (Get parent) (reply.GetRefused why) old new before before.keys was is number procs seen
@@ -65,10 +69,13 @@ module _ (formats : Formats) {F : Type 0} (lock : Place Told) (plan : Plan F) (p
       same_own
       (omega (arith, ap failures_in own)) (omega (arith, ap refusals_in own))
     where
-      means : (told : ℕ) (watching : Option Watching) → IsRefused (store_of plan.mounted (λ r. proc_of old.rec)) plan.mounted parent why
+      means : (told : ℕ) (watching : Option Watching)
+          → IsRefused (store_of plan.mounted (λ r. proc_of old.rec)) plan.mounted parent why
           → Means formats plan.mounted (proc_of old.rec) old.number (commits_of new.seen) (session_of old (held before watching) told) (Get parent) (reply.GetRefused why) (session_of new (held before watching) told)
-      means told watching (inl memory) = inr (inr (inl (record { reply_is = ap reply.GetRefused memory; new_is = ap (session_with told (held before watching)) kept })))
-      means told watching (inr bad) = inr (inl (record { mount = bad.0; why = why; bad = bad.2; cause = bad.1; reply_is = refl; new_is = ap (session_with told (held before watching)) kept }))
+      means told watching (inl memory) =
+          inr (inr (inl (record { reply_is = ap reply.GetRefused memory; new_is = ap (session_with told (held before watching)) kept })))
+      means told watching (inr bad) =
+          inr (inl (record { mount = bad.0; why = why; bad = bad.2; cause = bad.1; reply_is = refl; new_is = ap (session_with told (held before watching)) kept }))
 
   pub get-goes : (result : Result Got GetFault) (got : Got) → result ≡ Ok got
       → IsGotAt (store_of plan.mounted (λ r. proc_of old.rec)) plan.mounted (commits_of new.seen) old.number parent (record_of old.rec) (record_of new.rec) result

@@ -16,7 +16,9 @@ less_next i k lt = by (cases_lt i k)
     by (inr more) = inr (omega arith)
 
 -- one element more
-pub each-push : {A : Type 0} (P : ℕ → A → Type 0) (xs : List A) (x : A) → ((i : ℕ) (d : A) → i < length xs → P i (get_or xs i d)) → P (length xs) x → (i : ℕ) (d : A) → i < length (xs ++ x ∷ []) → P i (get_or (xs ++ x ∷ []) i d)
+pub each-push : {A : Type 0} (P : ℕ → A → Type 0) (xs : List A) (x : A)
+    → ((i : ℕ) (d : A) → i < length xs → P i (get_or xs i d)) → P (length xs) x → (i : ℕ) (d : A)
+    → i < length (xs ++ x ∷ []) → P i (get_or (xs ++ x ∷ []) i d)
 each-push P xs x each last i d lt = by (less_next i (length xs) (omega (arith, length_push xs x)))
   where
     by : (i < length xs) ⊎ (i ≡ length xs) → P i (get_or (xs ++ x ∷ []) i d)
@@ -24,22 +26,29 @@ each-push P xs x each last i d lt = by (less_next i (length xs) (omega (arith, l
     by (inr same) = subst (P i) (sym (get_or_push xs x d i (sym same))) (subst (λ (k : ℕ). P k x) (sym same) last)
 
 -- one place more was written
-pub done-next : {A : Type 0} (P : ℕ → A → A → Type 0) (xs : List A) (k : ℕ) (y : A) → k < length xs → ((i : ℕ) (d : A) → i < k → P i d (get_or xs i d)) → ((d : A) → P k d y) → (i : ℕ) (d : A) → i < k + 1 → P i d (get_or (set xs k y) i d)
+pub done-next : {A : Type 0} (P : ℕ → A → A → Type 0) (xs : List A) (k : ℕ) (y : A) → k < length xs
+    → ((i : ℕ) (d : A) → i < k → P i d (get_or xs i d)) → ((d : A) → P k d y) → (i : ℕ) (d : A) → i < k + 1
+    → P i d (get_or (set xs k y) i d)
 done-next P xs k y within done here i d lt = by (less_next i k lt)
   where
     by : (i < k) ⊎ (i ≡ k) → P i d (get_or (set xs k y) i d)
     by (inl less) = subst (P i d) (sym (get_or-set_other xs k i y d (λ same. omega arith))) (done i d less)
-    by (inr same) = subst (λ (j : ℕ). P j d (get_or (set xs k y) j d)) (sym same) (subst (P k d) (sym (get_or-set_same xs k y d within)) (here d))
+    by (inr same) =
+        subst (λ (j : ℕ). P j d (get_or (set xs k y) j d)) (sym same) (subst (P k d) (sym (get_or-set_same xs k y d within)) (here d))
 
 -- and the places behind it weren't
-pub left-next : {A : Type 0} (xs olds : List A) (k : ℕ) (y : A) → ((i : ℕ) (d : A) → k ≤ i → get_or xs i d ≡ get_or olds i d) → (i : ℕ) (d : A) → k + 1 ≤ i → get_or (set xs k y) i d ≡ get_or olds i d
+pub left-next : {A : Type 0} (xs olds : List A) (k : ℕ) (y : A)
+    → ((i : ℕ) (d : A) → k ≤ i → get_or xs i d ≡ get_or olds i d) → (i : ℕ) (d : A) → k + 1 ≤ i
+    → get_or (set xs k y) i d ≡ get_or olds i d
 left-next xs olds k y left i d le = get_or-set_other xs k i y d (λ same. omega arith) ∙ left i d (omega arith)
 
 -- the same of two lists that are written together
-pub exchanged-next : (workers : List Worker) (rooms : List (Vec Reply)) (olds : List Worker) (was : List (Vec Reply)) (k : ℕ) (new : Worker) (left : Vec Reply) → k < length workers → k < length rooms
+pub exchanged-next : (workers : List Worker) (rooms : List (Vec Reply)) (olds : List Worker) (was : List (Vec Reply))
+    (k : ℕ) (new : Worker) (left : Vec Reply) → k < length workers → k < length rooms
     → ((i : ℕ) (d : Worker) (e : Vec Reply) → i < k → IsExchanged (get_or olds i d) (get_or was i e) (get_or workers i d) (get_or rooms i e))
     → ((d : Worker) (e : Vec Reply) → IsExchanged (get_or olds k d) (get_or was k e) new left)
-    → (i : ℕ) (d : Worker) (e : Vec Reply) → i < k + 1 → IsExchanged (get_or olds i d) (get_or was i e) (get_or (set workers k new) i d) (get_or (set rooms k left) i e)
+    → (i : ℕ) (d : Worker) (e : Vec Reply) → i < k + 1
+    → IsExchanged (get_or olds i d) (get_or was i e) (get_or (set workers k new) i d) (get_or (set rooms k left) i e)
 exchanged-next workers rooms olds was k new left within room done here i d e lt = by (less_next i k lt)
   where
     Is : ℕ → Worker → Vec Reply → Type 0
@@ -54,9 +63,12 @@ exchanged-next workers rooms olds was k new left within room done here i d e lt 
         (subst (λ (w : Worker). Is k w (get_or (set rooms k left) k e)) (sym (get_or-set_same workers k new d within)) (subst (Is k new) (sym (get_or-set_same rooms k left e room)) (here d e)))
 
 -- what holds of each element so far, and of the next one
-pub all-next : {A : Type 0} (P : A → Type 0) (xs olds : List A) (k : ℕ) (it : A) → k < length xs → xs ≡ olds → ((i : ℕ) (d : A) → i < k → P (get_or olds i d)) → P (get_or xs k it) → (i : ℕ) (d : A) → i < k + 1 → P (get_or olds i d)
+pub all-next : {A : Type 0} (P : A → Type 0) (xs olds : List A) (k : ℕ) (it : A) → k < length xs → xs ≡ olds
+    → ((i : ℕ) (d : A) → i < k → P (get_or olds i d)) → P (get_or xs k it) → (i : ℕ) (d : A) → i < k + 1
+    → P (get_or olds i d)
 all-next P xs olds k it within same all here i d lt = by (less_next i k lt)
   where
     by : (i < k) ⊎ (i ≡ k) → P (get_or olds i d)
     by (inl less) = all i d less
-    by (inr at) = subst (λ (j : ℕ). P (get_or olds j d)) (sym at) (subst P (get_or_default xs k it d within ∙ ap (λ l. get_or l k d) same) here)
+    by (inr at) =
+        subst (λ (j : ℕ). P (get_or olds j d)) (sym at) (subst P (get_or_default xs k it d within ∙ ap (λ l. get_or l k d) same) here)

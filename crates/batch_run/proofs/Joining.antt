@@ -31,7 +31,8 @@ use Rattle.store_verdict.specs.RecordView.{proc_of, record_of}
 
 module _ (formats : Formats) {F : Type 0} (lock : Place Told) (plan : Plan F) where
   -- no step
-  pub goes-nowhere : (old : HandleValue) (before : Workspace) → IsReady lock plan old before → GoesOn formats lock plan [] [] old before old before
+  pub goes-nowhere : (old : HandleValue) (before : Workspace) → IsReady lock plan old before
+      → GoesOn formats lock plan [] [] old before old before
   goes-nowhere old before is = record {
     ready = is;
     number = refl;
@@ -52,11 +53,14 @@ module _ (formats : Formats) {F : Type 0} (lock : Place Told) (plan : Plan F) wh
     pub means : Means formats plan.mounted procs number (commits_of handle.seen) start step answer (session_of handle (held workspace watching) told)
 
   -- one step
-  pub goes-one : (step : Step) (answer : Reply) (old new : HandleValue) (before after : Workspace) → IsReady lock plan new after → new.number ≡ old.number → proc_of new.rec ≡ proc_of old.rec → IsPrefix old.seen new.seen
+  pub goes-one : (step : Step) (answer : Reply) (old new : HandleValue) (before after : Workspace)
+      → IsReady lock plan new after → new.number ≡ old.number → proc_of new.rec ≡ proc_of old.rec
+      → IsPrefix old.seen new.seen
       → ((told : ℕ) (watching : Option Watching) → told ≤ length (commits_of old.seen) → StandsFor (commits_of old.seen) before.watch watching
       → Takes old.number (proc_of old.rec) (session_of old (held before watching) told) step answer new after)
       → numbers_by old.number (commits_of new.seen) ≡ numbers_by old.number (commits_of old.seen) ++ numbers_told answer
-      → failures_in new.own ≡ failures_in old.own + failures_told answer → refusals_in new.own ≡ refusals_in old.own + refusals_told answer
+      → failures_in new.own ≡ failures_in old.own + failures_told answer
+      → refusals_in new.own ≡ refusals_in old.own + refusals_told answer
       → GoesOn formats lock plan (step ∷ []) (answer ∷ []) old before new after
   goes-one step answer old new before after is number procs seen takes own failures refusals = record {
     ready = is;
@@ -72,13 +76,16 @@ module _ (formats : Formats) {F : Type 0} (lock : Place Told) (plan : Plan F) wh
   }
 
   -- one that leaves the watch
-  pub goes-keys : (step : Step) (answer : Reply) (old new : HandleValue) (before : Workspace) (after : KeyMap) → IsReady lock plan old before → IsHandle lock plan new → new.number ≡ old.number → proc_of new.rec ≡ proc_of old.rec
+  pub goes-keys : (step : Step) (answer : Reply) (old new : HandleValue) (before : Workspace) (after : KeyMap)
+      → IsReady lock plan old before → IsHandle lock plan new → new.number ≡ old.number
+      → proc_of new.rec ≡ proc_of old.rec
       → IsPrefix old.seen new.seen
       → ((told : ℕ) (watching : Option Watching) → told ≤ length (commits_of old.seen)
       → (last : ℕ) × (last ≤ length (commits_of new.seen))
       × Means formats plan.mounted (proc_of old.rec) old.number (commits_of new.seen) (session_of old (held before watching) told) step answer (session_of new (record { working = after; watching = watching }) last))
       → numbers_by old.number (commits_of new.seen) ≡ numbers_by old.number (commits_of old.seen) ++ numbers_told answer
-      → failures_in new.own ≡ failures_in old.own + failures_told answer → refusals_in new.own ≡ refusals_in old.own + refusals_told answer
+      → failures_in new.own ≡ failures_in old.own + failures_told answer
+      → refusals_in new.own ≡ refusals_in old.own + refusals_told answer
       → GoesOn formats lock plan (step ∷ []) (answer ∷ []) old before new (record before { keys = after })
   goes-keys step answer old new before after was is number procs seen means own failures refusals =
       goes-one step answer old new before (record before { keys = after }) (record { handle_is = is; watch = within-more old.seen new.seen before.watch seen was.watch }) number procs seen
@@ -88,8 +95,10 @@ module _ (formats : Formats) {F : Type 0} (lock : Place Told) (plan : Plan F) wh
       own failures refusals
 
   -- some steps behind others
-  pub goes-far : (steps later : List Step) (answers others : List Reply) (old mid new : HandleValue) (before between after : Workspace)
-      → GoesOn formats lock plan steps answers old before mid between → GoesOn formats lock plan later others mid between new after
+  pub goes-far : (steps later : List Step) (answers others : List Reply) (old mid new : HandleValue)
+      (before between after : Workspace)
+      → GoesOn formats lock plan steps answers old before mid between
+      → GoesOn formats lock plan later others mid between new after
       → GoesOn formats lock plan (steps ++ later) (answers ++ others) old before new after
   goes-far steps later answers others old mid new before between after one two = record {
     ready = two.ready;
@@ -97,16 +106,20 @@ module _ (formats : Formats) {F : Type 0} (lock : Place Told) (plan : Plan F) wh
     procs = two.procs ∙ one.procs;
     seen = prefix-trans old.seen mid.seen new.seen one.seen two.seen;
     tells = both;
-    own = appended (numbers_by old.number (commits_of old.seen)) (numbers_by old.number (commits_of mid.seen)) (numbers_by old.number (commits_of new.seen)) (flat_map numbers_told answers) (flat_map numbers_told others) one.own rest
+    own =
+        appended (numbers_by old.number (commits_of old.seen)) (numbers_by old.number (commits_of mid.seen)) (numbers_by old.number (commits_of new.seen)) (flat_map numbers_told answers) (flat_map numbers_told others) one.own rest
         ∙ ap (λ (l : List ℕ). numbers_by old.number (commits_of old.seen) ++ l) (sym (flat_map-append numbers_told answers others));
     failures = omega (arith, one.failures, two.failures, sum_by-append failures_told answers others);
     refusals = omega (arith, one.refusals, two.refusals, sum_by-append refusals_told answers others);
   }
     where
-      rest : numbers_by old.number (commits_of new.seen) ≡ numbers_by old.number (commits_of mid.seen) ++ flat_map numbers_told others
-      rest = subst (λ (n : ℕ). numbers_by n (commits_of new.seen) ≡ numbers_by n (commits_of mid.seen) ++ flat_map numbers_told others) one.number two.own
+      rest : numbers_by old.number (commits_of new.seen)
+          ≡ numbers_by old.number (commits_of mid.seen) ++ flat_map numbers_told others
+      rest =
+          subst (λ (n : ℕ). numbers_by n (commits_of new.seen) ≡ numbers_by n (commits_of mid.seen) ++ flat_map numbers_told others) one.number two.own
 
-      both : (told : ℕ) (watching : Option Watching) → told ≤ length (commits_of old.seen) → StandsFor (commits_of old.seen) before.watch watching
+      both : (told : ℕ) (watching : Option Watching) → told ≤ length (commits_of old.seen)
+          → StandsFor (commits_of old.seen) before.watch watching
           → Leads formats plan.mounted (proc_of old.rec) old.number (session_of old (held before watching) told) (steps ++ later) (answers ++ others) new after
       both told watching le stands =
           let first = one.tells told watching le stands in
@@ -126,16 +139,20 @@ module _ (formats : Formats) {F : Type 0} (lock : Place Told) (plan : Plan F) wh
           }
 
   -- one more step of a list
-  pub goes-more : (steps : List Step) (i : ℕ) (step : Step) (answers : List Reply) (answer : Reply) (old mid new : HandleValue) (before between after : Workspace) → Some step ≡ slice_get steps i
-      → GoesOn formats lock plan (take i steps) answers old before mid between → GoesOn formats lock plan (step ∷ []) (answer ∷ []) mid between new after
+  pub goes-more : (steps : List Step) (i : ℕ) (step : Step) (answers : List Reply) (answer : Reply)
+      (old mid new : HandleValue) (before between after : Workspace) → Some step ≡ slice_get steps i
+      → GoesOn formats lock plan (take i steps) answers old before mid between
+      → GoesOn formats lock plan (step ∷ []) (answer ∷ []) mid between new after
       → GoesOn formats lock plan (take (i + 1) steps) (answers ++ answer ∷ []) old before new after
   goes-more steps i step answers answer old mid new before between after there one two =
       subst (λ (l : List Step). GoesOn formats lock plan l (answers ++ answer ∷ []) old before new after) (sym (take-next steps i step there))
       (goes-far (take i steps) (step ∷ []) answers (answer ∷ []) old mid new before between after one two)
 
   -- some steps, and then the handle has met others: it has seen more, and made nothing more
-  pub goes-met : (steps : List Step) (answers : List Reply) (old mid new : HandleValue) (before after : Workspace) → IsHandle lock plan new → new.number ≡ mid.number → IsPrefix mid.seen new.seen
-      → new.own ≡ mid.own → new.rec ≡ mid.rec → GoesOn formats lock plan steps answers old before mid after → GoesOn formats lock plan steps answers old before new after
+  pub goes-met : (steps : List Step) (answers : List Reply) (old mid new : HandleValue) (before after : Workspace)
+      → IsHandle lock plan new → new.number ≡ mid.number → IsPrefix mid.seen new.seen
+      → new.own ≡ mid.own → new.rec ≡ mid.rec → GoesOn formats lock plan steps answers old before mid after
+      → GoesOn formats lock plan steps answers old before new after
   goes-met steps answers old mid new before after is number seen own rec one = record {
     ready = record { handle_is = is; watch = within-more mid.seen new.seen after.watch seen one.ready.watch };
     number = number ∙ one.number;
@@ -150,7 +167,8 @@ module _ (formats : Formats) {F : Type 0} (lock : Place Told) (plan : Plan F) wh
       same : numbers_by mid.number (commits_of new.seen) ≡ numbers_by mid.number (commits_of mid.seen)
       same = numbers-since mid new one.ready.handle_is.own is.own (record { number = number; seen = seen; own = own })
 
-      met : (told : ℕ) (watching : Option Watching) → told ≤ length (commits_of old.seen) → StandsFor (commits_of old.seen) before.watch watching
+      met : (told : ℕ) (watching : Option Watching) → told ≤ length (commits_of old.seen)
+          → StandsFor (commits_of old.seen) before.watch watching
           → Leads formats plan.mounted (proc_of old.rec) old.number (session_of old (held before watching) told) steps answers new after
       met told watching le stands =
           let so_far = one.tells told watching le stands in

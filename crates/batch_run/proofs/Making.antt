@@ -39,22 +39,29 @@ module _ (f : List Told → ℕ) (f-none : f [] ≡ 0) (f-cons : (told : Told) (
   abbrev made : ℕ → List Told → ℕ
   made n log = total (λ i. f (made_by maker_of (i + 1) log)) n
 
-  made-other : (number : ℕ) (told : Told) (log : List Told) → maker_of told ≢ number → f (made_by maker_of number (told ∷ log)) ≡ f (made_by maker_of number log)
-  made-other number told log other = ap (λ b. f (cond b (told ∷ made_by maker_of number log) (made_by maker_of number log))) (ne_eqb (maker_of told) number other)
+  made-other : (number : ℕ) (told : Told) (log : List Told) → maker_of told ≢ number
+      → f (made_by maker_of number (told ∷ log)) ≡ f (made_by maker_of number log)
+  made-other number told log other =
+      ap (λ b. f (cond b (told ∷ made_by maker_of number log) (made_by maker_of number log))) (ne_eqb (maker_of told) number other)
 
-  made-own : (number : ℕ) (told : Told) (log : List Told) → maker_of told ≡ number → f (made_by maker_of number (told ∷ log)) ≡ f (told ∷ []) + f (made_by maker_of number log)
+  made-own : (number : ℕ) (told : Told) (log : List Told) → maker_of told ≡ number
+      → f (made_by maker_of number (told ∷ log)) ≡ f (told ∷ []) + f (made_by maker_of number log)
   made-own number told log own =
-      ap (λ b. f (cond b (told ∷ made_by maker_of number log) (made_by maker_of number log))) (eq-eqb (maker_of told) number own) ∙ f-cons told (made_by maker_of number log)
+      ap (λ b. f (cond b (told ∷ made_by maker_of number log) (made_by maker_of number log))) (eq-eqb (maker_of told) number own)
+      ∙ f-cons told (made_by maker_of number log)
 
   made-below : (n : ℕ) (told : Told) (log : List Told) → n < maker_of told → made n (told ∷ log) ≡ made n log
   made-below n told log above =
       total-same (λ i. f (made_by maker_of (i + 1) (told ∷ log))) (λ i. f (made_by maker_of (i + 1) log)) n (λ i lt. made-other (i + 1) told log (λ same. omega arith))
 
-  made-within : (n : ℕ) (told : Told) (log : List Told) → 1 ≤ maker_of told → maker_of told ≤ n → made n (told ∷ log) ≡ f (told ∷ []) + made n log
+  made-within : (n : ℕ) (told : Told) (log : List Told) → 1 ≤ maker_of told → maker_of told ≤ n
+      → made n (told ∷ log) ≡ f (told ∷ []) + made n log
   made-within zero told log some within = absurd (omega arith)
   made-within (suc n) told log some within = by (nat_eq (maker_of told) (n + 1)) refl (made-within n told log some)
     where
-      by : (b : Bool) → nat_eq (maker_of told) (n + 1) ≡ b → (maker_of told ≤ n → made n (told ∷ log) ≡ f (told ∷ []) + made n log) → made (suc n) (told ∷ log) ≡ f (told ∷ []) + made (suc n) log
+      by : (b : Bool) → nat_eq (maker_of told) (n + 1) ≡ b
+          → (maker_of told ≤ n → made n (told ∷ log) ≡ f (told ∷ []) + made n log)
+          → made (suc n) (told ∷ log) ≡ f (told ∷ []) + made (suc n) log
       by true is before =
           let at = eqb-true (maker_of told) (n + 1) is in
           let below = made-below n told log (omega arith) in
@@ -67,7 +74,8 @@ module _ (f : List Told → ℕ) (f-none : f [] ≡ 0) (f-cons : (told : Told) (
           omega arith
 
   -- of a story that no others made
-  pub made-all : (n : ℕ) (log : List Told) → ((number : ℕ) → IsOutside n number → made_by maker_of number log ≡ []) → f log ≡ made n log
+  pub made-all : (n : ℕ) (log : List Told) → ((number : ℕ) → IsOutside n number → made_by maker_of number log ≡ [])
+      → f log ≡ made n log
   made-all n [] only = f-none ∙ sym (total-none (λ i. f (made_by maker_of (i + 1) [])) n (λ i. f-none))
   made-all n (told ∷ log) only =
       let rest = made-all n log (λ number out. (left-out (nat_eq (maker_of told) number) told (made_by maker_of number log) (only number out)).1) in
@@ -89,8 +97,12 @@ refusals-cons (Failed commit) log = omega arith
 refusals-cons (Refused handle) log = omega arith
 
 -- the sets that failed, and the refused patterns, are those of all handles
-pub failures-all : (n : ℕ) (log : List Told) → ((number : ℕ) → (number ≡ 0) ⊎ (n < number) → made_by maker_of number log ≡ []) → failures_in log ≡ total (λ i. failures_in (made_by maker_of (i + 1) log)) n
+pub failures-all : (n : ℕ) (log : List Told)
+    → ((number : ℕ) → (number ≡ 0) ⊎ (n < number) → made_by maker_of number log ≡ [])
+    → failures_in log ≡ total (λ i. failures_in (made_by maker_of (i + 1) log)) n
 failures-all = made-all failures_in refl failures-cons
 
-pub refusals-all : (n : ℕ) (log : List Told) → ((number : ℕ) → (number ≡ 0) ⊎ (n < number) → made_by maker_of number log ≡ []) → refusals_in log ≡ total (λ i. refusals_in (made_by maker_of (i + 1) log)) n
+pub refusals-all : (n : ℕ) (log : List Told)
+    → ((number : ℕ) → (number ≡ 0) ⊎ (n < number) → made_by maker_of number log ≡ [])
+    → refusals_in log ≡ total (λ i. refusals_in (made_by maker_of (i + 1) log)) n
 refusals-all = made-all refusals_in refl refusals-cons

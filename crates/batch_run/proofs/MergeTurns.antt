@@ -58,35 +58,45 @@ module _ (formats : Formats) (files : List MountedFile) (parent : Name) (strateg
 
   -- ---- what the handle made on the way: nothing
 
-  retry-since : (old : HandleValue) (ours : KeyMap) (item : Tried) (new : HandleValue) (base theirs : KeyMap) → IsRetry formats files parent old ours item new base theirs → IsSince old new
+  retry-since : (old : HandleValue) (ours : KeyMap) (item : Tried) (new : HandleValue) (base theirs : KeyMap)
+      → IsRetry formats files parent old ours item new base theirs → IsSince old new
   retry-since old ours item new base theirs retry = record {
     number = retry.number ∙ retry.numbered;
     seen = prefix-trans old.seen retry.between.seen new.seen (stored-seen formats files parent ours (with-keys ours) old retry.between (Err (Conflict item.mount item.by item.front)) retry.stored) retry.seen;
     own = retry.own ∙ retry.stored.done.gains ∙ append-nil old.own;
   }
 
-  tries-since : (old : HandleValue) (ours : KeyMap) (items : List Tried) (new : HandleValue) (keys : KeyMap) → AreTries (IsTry formats files parent strategy) old ours items new keys → IsSince old new
+  tries-since : (old : HandleValue) (ours : KeyMap) (items : List Tried) (new : HandleValue) (keys : KeyMap)
+      → AreTries (IsTry formats files parent strategy) old ours items new keys → IsSince old new
   tries-since old ours [] new keys same = subst (IsSince old) (sym same.0) (since-self old)
   tries-since old ours (item ∷ items) new keys leads =
       since-trans old leads.mid new (retry-since old ours item leads.mid leads.is_try.base leads.is_try.theirs leads.is_try.retry) (tries-since leads.mid leads.next items new keys leads.rest)
 
   module _ (tries : ℕ) (last new : HandleValue) (keys : KeyMap) (made tried : List Tried) where
-    cut-since : (Unmade : KeyMap → KeyMap → Type 0) → IsCutBy (IsRetry formats files parent) last keys made new tried Unmade → IsSince last new
+    cut-since : (Unmade : KeyMap → KeyMap → Type 0)
+        → IsCutBy (IsRetry formats files parent) last keys made new tried Unmade → IsSince last new
     cut-since Unmade cut = retry-since last keys cut.item new cut.base cut.theirs cut.retry
 
     -- the end has seen more, too
-    end-seen : (end : Result Done MergeEnd) → IsEnd formats files parent strategy tries last keys made new tried end → IsPrefix last.seen new.seen
+    end-seen : (end : Result Done MergeEnd) → IsEnd formats files parent strategy tries last keys made new tried end
+        → IsPrefix last.seen new.seen
     end-seen (Ok done) h = stored-seen formats files parent keys (with-keys keys) last new (Ok done) h.1
-    end-seen (Err (merge_end.TriesSpent mount by front)) h = stored-seen formats files parent keys (with-keys keys) last new (Err (Conflict mount by front)) h.1
-    end-seen (Err (merge_end.Set (set_fault.Commit why))) h = stored-seen formats files parent keys (with-keys keys) last new (Err why) h.1
-    end-seen (Err (merge_end.Set (set_fault.Prepare why))) h = subst (λ (handle : HandleValue). IsPrefix last.seen handle.seen) (sym h.1.0) (prefix-self last.seen)
+    end-seen (Err (merge_end.TriesSpent mount by front)) h =
+        stored-seen formats files parent keys (with-keys keys) last new (Err (Conflict mount by front)) h.1
+    end-seen (Err (merge_end.Set (set_fault.Commit why))) h =
+        stored-seen formats files parent keys (with-keys keys) last new (Err why) h.1
+    end-seen (Err (merge_end.Set (set_fault.Prepare why))) h =
+        subst (λ (handle : HandleValue). IsPrefix last.seen handle.seen) (sym h.1.0) (prefix-self last.seen)
     end-seen (Err (merge_end.MergeConflicts names)) h = (cut-since _ h).seen
     end-seen (Err merge_end.Memory) (inl idle) = idle.1.seen
     end-seen (Err merge_end.Memory) (inr cut) = (cut-since _ cut).seen
 
     -- and only a set at the end makes something, which the reply tells
-    end-makes : (first : HandleValue) (end : Result Done MergeEnd) → first.own ≡ made_by maker_of first.number first.seen → new.own ≡ made_by maker_of new.number new.seen → new.number ≡ first.number → IsSince first last
-        → IsEnd formats files parent strategy tries last keys made new tried end → Makes first new (merge_reply tried end)
+    end-makes : (first : HandleValue) (end : Result Done MergeEnd)
+        → first.own ≡ made_by maker_of first.number first.seen → new.own ≡ made_by maker_of new.number new.seen
+        → new.number ≡ first.number → IsSince first last
+        → IsEnd formats files parent strategy tries last keys made new tried end
+        → Makes first new (merge_reply tried end)
     end-makes first (Ok done) was is number since h =
         let makes = stored-makes formats files parent keys (with-keys keys) last new (Ok done) h.1 first was since in
         record { numbers = makes.numbers; failures = makes.failures; refusals = makes.refusals }
@@ -113,8 +123,10 @@ module _ (formats : Formats) (files : List MountedFile) (parent : Name) (strateg
     Retry = Retries formats files number history parent
 
     -- behind a try it was told of all that the get found
-    retry-goes : (old : HandleValue) (ours : KeyMap) (item : Tried) (new : HandleValue) (base theirs : KeyMap) (told : ℕ) → old.number ≡ number → told ≤ length (commits_of old.seen) → IsPrefix (commits_of new.seen) history
-        → IsRetry formats files parent old ours item new base theirs → Retry (session_of old working told) ours item (session_of new working (length (commits_of new.seen))) base theirs
+    retry-goes : (old : HandleValue) (ours : KeyMap) (item : Tried) (new : HandleValue) (base theirs : KeyMap)
+        (told : ℕ) → old.number ≡ number → told ≤ length (commits_of old.seen) → IsPrefix (commits_of new.seen) history
+        → IsRetry formats files parent old ours item new base theirs
+        → Retry (session_of old working told) ours item (session_of new working (length (commits_of new.seen))) base theirs
     retry-goes old ours item new base theirs told numbered le begins retry =
         let between = retry.between in
         let answer : Result Done CommitFault = Err (Conflict item.mount item.by item.front) in
@@ -124,7 +136,8 @@ module _ (formats : Formats) (files : List MountedFile) (parent : Name) (strateg
         let so_far : item.front ≤ length (commits_of between.seen) = within formats files parent ours working old between answer retry.stored told le in
         record {
           mid = session_of between working item.front;
-          conflict = subst (λ (n : ℕ). IsJudgedThen formats (store_at files) n history parent ours (session_of old working told) (set_reply answer) (session_of between working item.front)) numbered
+          conflict =
+              subst (λ (n : ℕ). IsJudgedThen formats (store_at files) n history parent ours (session_of old working told) (set_reply answer) (session_of between working item.front)) numbered
               (judged-more formats (store_at files) old.number (commits_of between.seen) history parent ours (session_of old working told) (session_of between working item.front) (set_reply answer) far met);
           base_is = retry.base_is;
           past = commits_of new.seen;
@@ -136,9 +149,11 @@ module _ (formats : Formats) (files : List MountedFile) (parent : Name) (strateg
           new_is = ap (session_with (length (commits_of new.seen)) working) gives.kept;
         }
 
-    tries-go : (old : HandleValue) (ours : KeyMap) (items : List Tried) (new : HandleValue) (keys : KeyMap) (told : ℕ) → old.number ≡ number → told ≤ length (commits_of old.seen) → IsPrefix (commits_of new.seen) history
+    tries-go : (old : HandleValue) (ours : KeyMap) (items : List Tried) (new : HandleValue) (keys : KeyMap) (told : ℕ)
+        → old.number ≡ number → told ≤ length (commits_of old.seen) → IsPrefix (commits_of new.seen) history
         → AreTries (IsTry formats files parent strategy) old ours items new keys
-        → (last : ℕ) × (last ≤ length (commits_of new.seen)) × AreTries (IsTryBy Retry points parent strategy) (session_of old working told) ours items (session_of new working last) keys
+        → (last : ℕ) × (last ≤ length (commits_of new.seen))
+        × AreTries (IsTryBy Retry points parent strategy) (session_of old working told) ours items (session_of new working last) keys
     tries-go old ours [] new keys told numbered le begins same =
         (told, subst (λ (h : HandleValue). told ≤ length (commits_of h.seen)) (sym same.0) le, (ap (λ (h : HandleValue). session_of h working told) same.0, same.1))
     tries-go old ours (item ∷ items) new keys told numbered le begins leads =
@@ -164,7 +179,8 @@ module _ (formats : Formats) (files : List MountedFile) (parent : Name) (strateg
 
     -- a set at the end means what it does
     stored-ends : (result : Result Done CommitFault) → IsStored formats files last new parent keys result
-        → (after : ℕ) × (after ≤ length present) × MeansSet formats (store_at files) number present parent keys (session_of last working told) (set_reply result) (session_of new working after)
+        → (after : ℕ) × (after ≤ length present)
+        × MeansSet formats (store_at files) number present parent keys (session_of last working told) (set_reply result) (session_of new working after)
     stored-ends result stored = (
       told_then result told,
       within formats files parent keys working last new result stored told le,
@@ -173,7 +189,8 @@ module _ (formats : Formats) (files : List MountedFile) (parent : Name) (strateg
     )
 
     set-ends : (result : Result Done SetFault) → IsSet formats files last new parent keys result
-        → (after : ℕ) × (after ≤ length present) × SetsSo formats files number present parent (session_of last working told) (session_of new working after) keys result
+        → (after : ℕ) × (after ≤ length present)
+        × SetsSo formats files number present parent (session_of last working told) (session_of new working after) keys result
     set-ends (Ok done) h = stored-ends (Ok done) h
     set-ends (Err (set_fault.Commit why)) h = stored-ends (Err why) h
     set-ends (Err (set_fault.Prepare why)) h =
@@ -186,7 +203,8 @@ module _ (formats : Formats) (files : List MountedFile) (parent : Name) (strateg
         )
 
     -- and a try without a merge is one of the session
-    cut-ends : (Unmade : KeyMap → KeyMap → Type 0) → IsCutBy (IsRetry formats files parent) last keys made new tried Unmade
+    cut-ends : (Unmade : KeyMap → KeyMap → Type 0)
+        → IsCutBy (IsRetry formats files parent) last keys made new tried Unmade
         → IsCutBy (Retries formats files number present parent) (session_of last working told) keys made (session_of new working (length present)) tried Unmade
     cut-ends Unmade cut = record {
       item = cut.item;
@@ -198,36 +216,43 @@ module _ (formats : Formats) (files : List MountedFile) (parent : Name) (strateg
     }
 
     end-goes : (end : Result Done MergeEnd) → IsEnd formats files parent strategy tries last keys made new tried end
-        → (after : ℕ) × (after ≤ length present) × IsEndBy (Retries formats files number present parent) (SetsSo formats files number present parent) Stays points parent strategy tries
+        → (after : ℕ) × (after ≤ length present)
+        × IsEndBy (Retries formats files number present parent) (SetsSo formats files number present parent) Stays points parent strategy tries
         (session_of last working told) keys made (session_of new working after) tried end
     end-goes (Ok done) h = let set = set-ends (Ok done) h.1 in (set.0, set.1, (h.0, set.2))
     end-goes (Err (merge_end.TriesSpent mount by front)) h =
         let set = set-ends (Err (set_fault.Commit (Conflict mount by front))) h.1 in (set.0, set.1, (h.0, set.2, h.2))
     end-goes (Err (merge_end.Set why)) h = let set = set-ends (Err why) h.1 in (set.0, set.1, (h.0, set.2, h.2))
     end-goes (Err (merge_end.MergeConflicts names)) h = (length present, omega arith, cut-ends _ h)
-    end-goes (Err merge_end.Memory) (inl idle) = (told, omega (arith, le, longer-commits last.seen new.seen idle.1.seen), inl (idle.0, ap (session_with told working) idle.1.kept))
+    end-goes (Err merge_end.Memory) (inl idle) =
+        (told, omega (arith, le, longer-commits last.seen new.seen idle.1.seen), inl (idle.0, ap (session_with told working) idle.1.kept))
     end-goes (Err merge_end.Memory) (inr cut) = (length present, omega arith, inr (cut-ends _ cut))
 
 -- ---- the step
 
 module _ (formats : Formats) {F : Type 0} (lock : Place Told) (plan : Plan F) (parent : Name) (strategy : Strategy) (tries : ℕ) (old new : HandleValue) (before : Workspace) (was : IsReady lock plan old before) (is : IsHandle lock plan new)
     (number : new.number ≡ old.number) (procs : proc_of new.rec ≡ proc_of old.rec) (after : KeyMap) where
-  merge-goes : (tried : List Tried) (end : Result Done MergeEnd) → IsMergedSet formats plan.mounted parent strategy tries old before.keys new after tried end
+  merge-goes : (tried : List Tried) (end : Result Done MergeEnd)
+      → IsMergedSet formats plan.mounted parent strategy tries old before.keys new after tried end
       → GoesOn formats lock plan (Merge parent strategy tries ∷ []) (merge_reply tried end ∷ []) old before new (record before { keys = after })
   merge-goes tried end merged =
       goes-keys formats lock plan (Merge parent strategy tries) (merge_reply tried end) old new before after was is number procs (prefix-trans old.seen merged.last.seen new.seen since.seen seen) means makes.numbers makes.failures makes.refusals
     where
       since : IsSince old merged.last
-      since = tries-since formats plan.mounted parent strategy old before.keys merged.made merged.last merged.keys merged.retries
+      since =
+          tries-since formats plan.mounted parent strategy old before.keys merged.made merged.last merged.keys merged.retries
 
       seen : IsPrefix merged.last.seen new.seen
-      seen = end-seen formats plan.mounted parent strategy tries merged.last new merged.keys merged.made tried end merged.ends
+      seen =
+          end-seen formats plan.mounted parent strategy tries merged.last new merged.keys merged.made tried end merged.ends
 
       makes : Makes old new (merge_reply tried end)
-      makes = end-makes formats plan.mounted parent strategy tries merged.last new merged.keys merged.made tried old end was.handle_is.own is.own number since merged.ends
+      makes =
+          end-makes formats plan.mounted parent strategy tries merged.last new merged.keys merged.made tried old end was.handle_is.own is.own number since merged.ends
 
       means : (told : ℕ) (watching : Option Watching) → told ≤ length (commits_of old.seen)
-          → (later : ℕ) × (later ≤ length (commits_of new.seen)) × Means formats plan.mounted (proc_of old.rec) old.number (commits_of new.seen) (session_of old (held before watching) told) (Merge parent strategy tries) (merge_reply tried end) (session_of new (record { working = after; watching = watching }) later)
+          → (later : ℕ) × (later ≤ length (commits_of new.seen))
+          × Means formats plan.mounted (proc_of old.rec) old.number (commits_of new.seen) (session_of old (held before watching) told) (Merge parent strategy tries) (merge_reply tried end) (session_of new (record { working = after; watching = watching }) later)
       means told watching le =
           let made = tries-go formats plan.mounted parent strategy (held before watching) old.number (commits_of new.seen) old before.keys merged.made merged.last merged.keys told refl le (commits-prefix merged.last.seen new.seen seen) merged.retries in
           let ended = end-goes formats plan.mounted parent strategy (held before watching) old.number tries merged.last new merged.keys merged.made tried made.0 since.number made.1 end merged.ends in (
@@ -244,12 +269,14 @@ module _ (formats : Formats) {F : Type 0} (lock : Place Told) (plan : Plan F) (p
             }),
           )
 
-  pub merged-goes : (result : Result Merging MergeFault) (merging : Merging) → result ≡ Ok merging → IsMergedSet formats plan.mounted parent strategy tries old before.keys new after (tried_in result) (end_of result)
+  pub merged-goes : (result : Result Merging MergeFault) (merging : Merging) → result ≡ Ok merging
+      → IsMergedSet formats plan.mounted parent strategy tries old before.keys new after (tried_in result) (end_of result)
       → GoesOn formats lock plan (Merge parent strategy tries ∷ []) (reply.Merged merging ∷ []) old before new (record before { keys = after })
   merged-goes result merging e merged =
       merge-goes merging.tried (Ok merging.done) (subst (λ (r : Result Merging MergeFault). IsMergedSet formats plan.mounted parent strategy tries old before.keys new after (tried_in r) (end_of r)) e merged)
 
-  pub unmerged-goes : (result : Result Merging MergeFault) (fault : MergeFault) → result ≡ Err fault → IsMergedSet formats plan.mounted parent strategy tries old before.keys new after (tried_in result) (end_of result)
+  pub unmerged-goes : (result : Result Merging MergeFault) (fault : MergeFault) → result ≡ Err fault
+      → IsMergedSet formats plan.mounted parent strategy tries old before.keys new after (tried_in result) (end_of result)
       → GoesOn formats lock plan (Merge parent strategy tries ∷ []) (reply.MergeRefused fault ∷ []) old before new (record before { keys = after })
   unmerged-goes result fault e merged =
       merge-goes fault.tried (Err fault.end) (subst (λ (r : Result Merging MergeFault). IsMergedSet formats plan.mounted parent strategy tries old before.keys new after (tried_in r) (end_of r)) e merged)

@@ -19,8 +19,10 @@ use Rattle.seat_lock.specs.Known.{Place}
 use Rattle.store_core.specs.declared.cores.Plan.{Plan}
 
 module _ (formats : Formats) {F : Type 0} (lock : Place Told) (plan : Plan F) where
-  pub phase-next : (procs : ℕ → KeyMap) (names : List ℕ) (phases : List Phase) (rooms : List PhaseRooms) (p : ℕ) (d : Phase) (room : PhaseRooms) (old new : List Worker) → p < length phases → p < length rooms
-      → Stand formats lock plan procs (rows_of names (take p phases)) (map row_in (take p rooms)) old → map number_in old ≡ names
+  pub phase-next : (procs : ℕ → KeyMap) (names : List ℕ) (phases : List Phase) (rooms : List PhaseRooms) (p : ℕ)
+      (d : Phase) (room : PhaseRooms) (old new : List Worker) → p < length phases → p < length rooms
+      → Stand formats lock plan procs (rows_of names (take p phases)) (map row_in (take p rooms)) old
+      → map number_in old ≡ names
       → IsThrough formats lock plan (map (steps_in (get_or phases p d).sessions) (map number_in old)) (row_in room) old new
       → Stand formats lock plan procs (rows_of names (take (p + 1) phases)) (map row_in (take (p + 1) (set rooms p room))) new
   phase-next procs names phases rooms p d room old new lt within stand named through =
@@ -34,7 +36,9 @@ module _ (formats : Formats) {F : Type 0} (lock : Place Told) (plan : Plan F) wh
       (subst (λ (r : List (List (List Reply))). Stand formats lock plan procs (rows_of names (take p phases) ++ row (get_or phases p d) ∷ []) r new) (sym replies) next)
 
   -- and all rest again
-  pub rest-next : (steps : List (List Step)) (replies : List (List Reply)) (old new : List Worker) → IsThrough formats lock plan steps replies old new → (i : ℕ) (d : Worker) → i < length new → IsResting lock plan (get_or new i d)
+  pub rest-next : (steps : List (List Step)) (replies : List (List Reply)) (old new : List Worker)
+      → IsThrough formats lock plan steps replies old new → (i : ℕ) (d : Worker) → i < length new
+      → IsResting lock plan (get_or new i d)
   rest-next steps replies old new through i d lt =
       let was : i < length old = omega (arith, through.many) in
       record { ready = (through.goes i d was).ready; none = through.idle i d was }

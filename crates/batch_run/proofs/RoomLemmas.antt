@@ -6,7 +6,8 @@ use Rattle.batch_run.specs.declared.rooms.PhaseRooms.{PhaseRooms}
 use Rattle.batch_script.specs.declared.steps.Phase.{Phase}
 
 -- it is as wide as when the rooms were made
-pub wide-still : (names : List ℕ) (phases : List Phase) (old new : List PhaseRooms) → KeepShown old new → ArePhaseRooms names phases old → AreWide phases new
+pub wide-still : (names : List ℕ) (phases : List Phase) (old new : List PhaseRooms) → KeepShown old new
+    → ArePhaseRooms names phases old → AreWide phases new
 wide-still names phases old new keep rooms p phase e lt =
     let was : p < length old = omega (arith, keep.many) in
     let at = rooms.each p phase e was in

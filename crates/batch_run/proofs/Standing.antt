@@ -41,8 +41,10 @@ use Rattle.watch_feed.specs.Watches.{WatchValue}
 -- ---- rows
 
 -- what a session has in one row more
-session-snoc : {A : Type 0} (i : ℕ) (rows : List (List (List A))) (row : List (List A)) → of_session i (rows ++ row ∷ []) ≡ of_session i rows ++ in_row i row
-session-snoc {A} i rows row = flat_map-append (in_row i) rows (row ∷ []) ∙ ap (λ (l : List A). of_session i rows ++ l) (append-nil (in_row i row))
+session-snoc : {A : Type 0} (i : ℕ) (rows : List (List (List A))) (row : List (List A))
+    → of_session i (rows ++ row ∷ []) ≡ of_session i rows ++ in_row i row
+session-snoc {A} i rows row =
+    flat_map-append (in_row i) rows (row ∷ []) ∙ ap (λ (l : List A). of_session i rows ++ l) (append-nil (in_row i row))
 
 count-none : (n : ℕ) → count_told n [] ≡ 0
 count-none zero = refl
@@ -51,22 +53,28 @@ count-none (suc n) = ap (λ k. k + 0) (count-none n)
 -- ---- replies
 
 -- lower floors are kept too
-lower : (low high : ℕ) (replies : List Reply) → low ≤ high → AllByRecursion (IsAtLeast high) replies → All (IsAtLeast low) replies
+lower : (low high : ℕ) (replies : List Reply) → low ≤ high → AllByRecursion (IsAtLeast high) replies
+    → All (IsAtLeast low) replies
 lower low high replies le all = All-from_recursion (IsAtLeast low) replies (all-less low high replies le all)
 
 -- as many replies as steps
-tells-length : (formats : Formats) (files : List MountedFile) (procs : KeyMap) (number : ℕ) (history : List Commit) (old new : Session) (steps : List Step) (replies : List Reply) → Tells formats files procs number history old steps replies new
+tells-length : (formats : Formats) (files : List MountedFile) (procs : KeyMap) (number : ℕ) (history : List Commit)
+    (old new : Session) (steps : List Step) (replies : List Reply)
+    → Tells formats files procs number history old steps replies new
     → length replies ≡ length steps
 tells-length formats files procs number history old new [] [] h = refl
 tells-length formats files procs number history old new [] (reply ∷ replies) h = absurd h
 tells-length formats files procs number history old new (step ∷ steps) [] h = absurd h
-tells-length formats files procs number history old new (step ∷ steps) (reply ∷ replies) h = ap suc (tells-length formats files procs number history h.0 new steps replies h.2)
+tells-length formats files procs number history old new (step ∷ steps) (reply ∷ replies) h =
+    ap suc (tells-length formats files procs number history h.0 new steps replies h.2)
 
 module _ (formats : Formats) {F : Type 0} (lock : Place Told) (plan : Plan F) where
   -- ---- one session
 
   -- one that has a handle that was just opened
-  pub taken-first : (procs : KeyMap) (sessions i : ℕ) (worker : Worker) → IsFresh lock plan (i + 1) procs worker.session.handle → IsSeated worker → HasTaken formats lock plan procs sessions i [] [] worker
+  pub taken-first : (procs : KeyMap) (sessions i : ℕ) (worker : Worker)
+      → IsFresh lock plan (i + 1) procs worker.session.handle → IsSeated worker
+      → HasTaken formats lock plan procs sessions i [] [] worker
   taken-first procs sessions i worker fresh seated =
       let none : commits_of worker.session.handle.seen ≡ [] = ap commits_of (fresh.seen ∙ fresh.handle_is.started.start) in
       let count : (record_of worker.session.handle.rec).committed ≡ 0 =
@@ -88,17 +96,22 @@ module _ (formats : Formats) {F : Type 0} (lock : Place Told) (plan : Plan F) wh
       }
 
   -- how a session went on, by its number and its keys in `proc`
-  goes-as : (procs : KeyMap) (number : ℕ) (steps : List Step) (replies : List Reply) (old new : Worker) (told : ℕ) (watching : Option Watching)
+  goes-as : (procs : KeyMap) (number : ℕ) (steps : List Step) (replies : List Reply) (old new : Worker) (told : ℕ)
+      (watching : Option Watching)
       → GoesOn formats lock plan steps replies old.session.handle old.session.workspace new.session.handle new.session.workspace
-      → old.session.handle.number ≡ number → proc_of old.session.handle.rec ≡ procs → told ≤ length (commits_of old.session.handle.seen) → StandsFor (commits_of old.session.handle.seen) old.session.workspace.watch watching
+      → old.session.handle.number ≡ number → proc_of old.session.handle.rec ≡ procs
+      → told ≤ length (commits_of old.session.handle.seen)
+      → StandsFor (commits_of old.session.handle.seen) old.session.workspace.watch watching
       → Leads formats plan.mounted procs number (session_of old.session.handle (held old.session.workspace watching) told) steps replies new.session.handle new.session.workspace
   goes-as procs number steps replies old new told watching goes number_is procs_are le stands =
       let Says : KeyMap → ℕ → Type 0 = λ p n. Leads formats plan.mounted p n (session_of old.session.handle (held old.session.workspace watching) told) steps replies new.session.handle new.session.workspace in
       subst (λ (p : KeyMap). Says p number) procs_are (subst (λ (n : ℕ). Says (proc_of old.session.handle.rec) n) number_is (goes.tells told watching le stands))
 
   -- One that goes through one phase more. When it begins the session knows of all commits that its handle has seen
-  taken-next : (procs : KeyMap) (sessions i : ℕ) (steps : List (List (List Step))) (replies : List (List (List Reply))) (made : List (List Step)) (row : List (List Reply)) (old new : Worker)
-      → HasTaken formats lock plan procs sessions i steps replies old → count_told sessions replies ≤ length (commits_of old.session.handle.seen)
+  taken-next : (procs : KeyMap) (sessions i : ℕ) (steps : List (List (List Step))) (replies : List (List (List Reply)))
+      (made : List (List Step)) (row : List (List Reply)) (old new : Worker)
+      → HasTaken formats lock plan procs sessions i steps replies old
+      → count_told sessions replies ≤ length (commits_of old.session.handle.seen)
       → GoesOn formats lock plan (in_row i made) (in_row i row) old.session.handle old.session.workspace new.session.handle new.session.workspace
       → new.told.items ≡ [] → HasTaken formats lock plan procs sessions i (steps ++ made ∷ []) (replies ++ row ∷ []) new
   taken-next procs sessions i steps replies made row old new was knows goes idle =
@@ -124,7 +137,8 @@ module _ (formats : Formats) {F : Type 0} (lock : Place Told) (plan : Plan F) wh
           within = on.within;
           watching = on.watching;
           watches = on.watches;
-          tells = phases-next formats plan.mounted procs number history sessions i first_session middle last [] steps replies made row before
+          tells =
+              phases-next formats plan.mounted procs number history sessions i first_session middle last [] steps replies made row before
               (record { told = seen; no_less = led.within; knows = knows; mid = last; tells = on.tells; rest = refl });
         };
         own = own ∙ ap (λ (l : List ℕ). l ++ flat_map numbers_told told) was.own ∙ sym (ap (flat_map numbers_told) more ∙ flat_map-append numbers_told (of_session i replies) told);
@@ -150,7 +164,8 @@ module _ (formats : Formats) {F : Type 0} (lock : Place Told) (plan : Plan F) wh
         (session_of new.session.handle (held new.session.workspace on.watching) on.told) steps replies on.tells
 
   -- one that has no replies in its present phase can take steps
-  pub rests : (procs : KeyMap) (sessions i : ℕ) (steps : List (List (List Step))) (replies : List (List (List Reply))) (worker : Worker) → HasTaken formats lock plan procs sessions i steps replies worker → IsResting lock plan worker
+  pub rests : (procs : KeyMap) (sessions i : ℕ) (steps : List (List (List Step))) (replies : List (List (List Reply)))
+      (worker : Worker) → HasTaken formats lock plan procs sessions i steps replies worker → IsResting lock plan worker
   rests procs sessions i steps replies worker taken = record {
     ready = record { handle_is = taken.handle; watch = stands-within worker.session.handle.seen worker.session.workspace.watch taken.leads.watching taken.leads.watches };
     none = taken.idle;
@@ -158,7 +173,9 @@ module _ (formats : Formats) {F : Type 0} (lock : Place Told) (plan : Plan F) wh
 
   -- ---- all sessions
 
-  pub stand-first : (procs : ℕ → KeyMap) (workers : List Worker) → ((i : ℕ) (d : Worker) → i < length workers → HasTaken formats lock plan (procs (i + 1)) (length workers) i [] [] (get_or workers i d)) → Stand formats lock plan procs [] [] workers
+  pub stand-first : (procs : ℕ → KeyMap) (workers : List Worker)
+      → ((i : ℕ) (d : Worker) → i < length workers → HasTaken formats lock plan (procs (i + 1)) (length workers) i [] [] (get_or workers i d))
+      → Stand formats lock plan procs [] [] workers
   stand-first procs workers each = record {
     long = refl;
     full = λ p made row at there. absurd cc;
@@ -168,14 +185,16 @@ module _ (formats : Formats) {F : Type 0} (lock : Place Told) (plan : Plan F) wh
   }
 
   module _ (procs : ℕ → KeyMap) (steps : List (List (List Step))) (replies : List (List (List Reply))) (row : List (List Step)) (told : List (List Reply)) (old new : List Worker) where
-    next-each : Stand formats lock plan procs steps replies old → IsThrough formats lock plan row told old new → (i : ℕ) (d : Worker) → i < length new
+    next-each : Stand formats lock plan procs steps replies old → IsThrough formats lock plan row told old new
+        → (i : ℕ) (d : Worker) → i < length new
         → HasTaken formats lock plan (procs (i + 1)) (length new) i (steps ++ row ∷ []) (replies ++ told ∷ []) (get_or new i d)
     next-each stand through i d lt =
         let lt' : i < length old = omega (arith, through.many) in
         subst (λ (n : ℕ). HasTaken formats lock plan (procs (i + 1)) n i (steps ++ row ∷ []) (replies ++ told ∷ []) (get_or new i d)) (sym through.many)
         (taken-next (procs (i + 1)) (length old) i steps replies row told (get_or old i d) (get_or new i d) (stand.each i d lt') (stand.covers i d lt') (through.goes i d lt') (through.idle i d lt'))
 
-    next-covers : Stand formats lock plan procs steps replies old → IsThrough formats lock plan row told old new → (i : ℕ) (d : Worker) → i < length new
+    next-covers : Stand formats lock plan procs steps replies old → IsThrough formats lock plan row told old new
+        → (i : ℕ) (d : Worker) → i < length new
         → count_told (length new) (replies ++ told ∷ []) ≤ length (commits_of (get_or new i d).session.handle.seen)
     next-covers stand through i d lt =
         covered (length new) (replies ++ told ∷ []) (commits_of (get_or new i d).session.handle.seen) (λ j lt_j.
@@ -186,8 +205,10 @@ module _ (formats : Formats) {F : Type 0} (lock : Place Told) (plan : Plan F) wh
         let there : count_seen (get_or new j d).session.handle.number (get_or new i d).session.handle ≡ count_seen (j + 1) (get_or new i d).session.handle = ap (λ (n : ℕ). count_seen n (get_or new i d).session.handle) made.number_is in
         omega arith)
 
-    last-phase : Stand formats lock plan procs steps replies old → IsThrough formats lock plan row told old new → All (All (IsAtLeast (count_told (length old) replies))) told
-    last-phase stand through k e lt = subst (All (IsAtLeast (count_told (length old) replies))) (in_row-at told k e lt) each
+    last-phase : Stand formats lock plan procs steps replies old → IsThrough formats lock plan row told old new
+        → All (All (IsAtLeast (count_told (length old) replies))) told
+    last-phase stand through k e lt =
+        subst (All (IsAtLeast (count_told (length old) replies))) (in_row-at told k e lt) each
       where
         lt' : k < length old
         lt' = omega (arith, through.told)
@@ -199,17 +220,20 @@ module _ (formats : Formats) {F : Type 0} (lock : Place Told) (plan : Plan F) wh
         led = (stand.each k some.0 lt').leads
 
         each : All (IsAtLeast (count_told (length old) replies)) (in_row k told)
-        each = lower (count_told (length old) replies) (length (commits_of (get_or old k some.0).session.handle.seen)) (in_row k told) (stand.covers k some.0 lt')
+        each =
+            lower (count_told (length old) replies) (length (commits_of (get_or old k some.0).session.handle.seen)) (in_row k told) (stand.covers k some.0 lt')
             (goes-fronts (in_row k row) (in_row k told) (get_or old k some.0) (get_or new k some.0) led.watching led.watches (through.goes k some.0 lt'))
 
-    next-phases : Stand formats lock plan procs steps replies old → IsThrough formats lock plan row told old new → (p : ℕ) (there : List (List Reply)) → slice_get (replies ++ told ∷ []) p ≡ Some there
+    next-phases : Stand formats lock plan procs steps replies old → IsThrough formats lock plan row told old new
+        → (p : ℕ) (there : List (List Reply)) → slice_get (replies ++ told ∷ []) p ≡ Some there
         → All (All (IsAtLeast (count_told (length new) (take p (replies ++ told ∷ []))))) there
     next-phases stand through p there is = by (last_or_before replies told there p is)
       where
         Floor : ℕ → List (List (List Reply)) → List (List Reply) → Type 0
         Floor n rows r = All (All (IsAtLeast (count_told n rows))) r
 
-        by : (slice_get replies p ≡ Some there) ⊎ ((p ≡ length replies) × (told ≡ there)) → Floor (length new) (take p (replies ++ told ∷ [])) there
+        by : (slice_get replies p ≡ Some there) ⊎ ((p ≡ length replies) × (told ≡ there))
+            → Floor (length new) (take p (replies ++ told ∷ [])) there
         by (inl here) =
             subst (λ (n : ℕ). Floor n (take p (replies ++ told ∷ [])) there) (sym through.many)
             (subst (λ (rows : List (List (List Reply))). Floor (length old) rows there) (sym (take-append-le p replies (told ∷ []) (omega (arith, slice_get_within replies p there here)))) (stand.phases p there here))
@@ -218,7 +242,8 @@ module _ (formats : Formats) {F : Type 0} (lock : Place Told) (plan : Plan F) wh
             (subst (λ (rows : List (List (List Reply))). Floor (length old) rows there) (sym (take_at replies (told ∷ []) p (sym last.0)))
             (subst (Floor (length old) replies) last.1 (last-phase stand through)))
 
-    last-full : Stand formats lock plan procs steps replies old → IsThrough formats lock plan row told old new → IsFull (length new) row told
+    last-full : Stand formats lock plan procs steps replies old → IsThrough formats lock plan row told old new
+        → IsFull (length new) row told
     last-full stand through = record {
       wide = through.told ∙ sym through.many;
       even = λ i lt.
@@ -228,17 +253,25 @@ module _ (formats : Formats) {F : Type 0} (lock : Place Told) (plan : Plan F) wh
           goes-length (in_row i row) (in_row i told) (get_or old i some.0) (get_or new i some.0) led.watching led.watches (through.goes i some.0 lt');
     }
 
-    next-full : Stand formats lock plan procs steps replies old → IsThrough formats lock plan row told old new → (p : ℕ) (made : List (List Step)) (there : List (List Reply)) → slice_get (steps ++ row ∷ []) p ≡ Some made
+    next-full : Stand formats lock plan procs steps replies old → IsThrough formats lock plan row told old new
+        → (p : ℕ) (made : List (List Step)) (there : List (List Reply)) → slice_get (steps ++ row ∷ []) p ≡ Some made
         → slice_get (replies ++ told ∷ []) p ≡ Some there → IsFull (length new) made there
-    next-full stand through p made there at is = by (last_or_before steps row made p at) (last_or_before replies told there p is)
+    next-full stand through p made there at is =
+        by (last_or_before steps row made p at) (last_or_before replies told there p is)
       where
-        by : (slice_get steps p ≡ Some made) ⊎ ((p ≡ length steps) × (row ≡ made)) → (slice_get replies p ≡ Some there) ⊎ ((p ≡ length replies) × (told ≡ there)) → IsFull (length new) made there
-        by (inl here) (inl answered) = subst (λ (n : ℕ). IsFull n made there) (sym through.many) (stand.full p made there here answered)
+        by : (slice_get steps p ≡ Some made) ⊎ ((p ≡ length steps) × (row ≡ made))
+            → (slice_get replies p ≡ Some there) ⊎ ((p ≡ length replies) × (told ≡ there))
+            → IsFull (length new) made there
+        by (inl here) (inl answered) =
+            subst (λ (n : ℕ). IsFull n made there) (sym through.many) (stand.full p made there here answered)
         by (inl here) (inr last) = absurd (omega (arith, slice_get_within steps p made here, stand.long, last.0))
-        by (inr last) (inl answered) = absurd (omega (arith, slice_get_within replies p there answered, stand.long, last.0))
-        by (inr last) (inr end) = subst (λ (s : List (List Step)). IsFull (length new) s there) last.1 (subst (IsFull (length new) row) end.1 (last-full stand through))
+        by (inr last) (inl answered) =
+            absurd (omega (arith, slice_get_within replies p there answered, stand.long, last.0))
+        by (inr last) (inr end) =
+            subst (λ (s : List (List Step)). IsFull (length new) s there) last.1 (subst (IsFull (length new) row) end.1 (last-full stand through))
 
-    pub stand-next : Stand formats lock plan procs steps replies old → IsThrough formats lock plan row told old new → Stand formats lock plan procs (steps ++ row ∷ []) (replies ++ told ∷ []) new
+    pub stand-next : Stand formats lock plan procs steps replies old → IsThrough formats lock plan row told old new
+        → Stand formats lock plan procs (steps ++ row ∷ []) (replies ++ told ∷ []) new
     stand-next stand through = record {
       long = length_push replies told ∙ ap (λ k. k + 1) stand.long ∙ sym (length_push steps row);
       full = next-full stand through;
@@ -249,8 +282,10 @@ module _ (formats : Formats) {F : Type 0} (lock : Place Told) (plan : Plan F) wh
 
   -- ---- the end
 
-  pub fair-rows : (procs : ℕ → KeyMap) (steps : List (List (List Step))) (replies : List (List (List Reply))) (workers : List Worker) (history : List Commit) → Stand formats lock plan procs steps replies workers
-      → Closes (length workers) history (map handle_in workers) → IsFair formats plan.mounted (length workers) procs history steps replies
+  pub fair-rows : (procs : ℕ → KeyMap) (steps : List (List (List Step))) (replies : List (List (List Reply)))
+      (workers : List Worker) (history : List Commit) → Stand formats lock plan procs steps replies workers
+      → Closes (length workers) history (map handle_in workers)
+      → IsFair formats plan.mounted (length workers) procs history steps replies
   fair-rows procs steps replies workers history stand closes = record {
     tells = λ i lt.
         let some = there_is workers i lt in
@@ -268,5 +303,7 @@ module _ (formats : Formats) {F : Type 0} (lock : Place Told) (plan : Plan F) wh
     phases = stand.phases;
   }
     where
-      begins : (i : ℕ) (d : Worker) → i < length workers → IsPrefix (commits_of (get_or workers i d).session.handle.seen) history
-      begins i d lt = subst (λ (h : HandleValue). IsPrefix (commits_of h.seen) history) (get_or-map handle_in workers i d d.session.handle lt) (closes.seen i d.session.handle lt)
+      begins : (i : ℕ) (d : Worker) → i < length workers
+          → IsPrefix (commits_of (get_or workers i d).session.handle.seen) history
+      begins i d lt =
+          subst (λ (h : HandleValue). IsPrefix (commits_of h.seen) history) (get_or-map handle_in workers i d d.session.handle lt) (closes.seen i d.session.handle lt)

@@ -28,9 +28,11 @@ use Rattle.batch_run.proofs.CommitNumbers.{numbers-same}
 use Rattle.store_core.specs.declared.cores.Plan.{Plan}
 
 -- with the rooms of the phase all may take their steps
-pub ready-rooms : (phase : List Steps) (old new : List Worker) (rooms left : List (Vec Reply)) → HaveRoom (map number_in old) phase rooms
+pub ready-rooms : (phase : List Steps) (old new : List Worker) (rooms left : List (Vec Reply))
+    → HaveRoom (map number_in old) phase rooms
     → ((i : ℕ) (d : Worker) (e : Vec Reply) → i < length old → IsExchanged (get_or old i d) (get_or rooms i e) (get_or new i d) (get_or left i e))
-    → (i : ℕ) (d : Worker) → i < length old → IsRoom (length (steps_in phase (get_or new i d).session.number)) (get_or new i d).told
+    → (i : ℕ) (d : Worker) → i < length old
+    → IsRoom (length (steps_in phase (get_or new i d).session.number)) (get_or new i d).told
 ready-rooms phase old new rooms left room exchanged i d lt =
     let within : i < length rooms = omega (arith, room.many, length-map old number_in) in
     let some = there_is rooms i within in
@@ -41,9 +43,11 @@ ready-rooms phase old new rooms left room exchanged i d lt =
     subst (λ (n : ℕ). IsRoom (length (steps_in phase n)) (get_or new i d).told) number (subst (IsRoom (length (steps_in phase (get_or (map number_in old) i 0)))) (sym one.told) is)
 
 -- and all are ready for it
-pub ready-all : {F : Type 0} (lock : Place Told) (plan : Plan F) (old new : List Worker) (rooms left : List (Vec Reply)) → length rooms ≡ length old → ((i : ℕ) (d : Worker) → i < length old → IsResting lock plan (get_or old i d))
+pub ready-all : {F : Type 0} (lock : Place Told) (plan : Plan F) (old new : List Worker) (rooms left : List (Vec Reply))
+    → length rooms ≡ length old → ((i : ℕ) (d : Worker) → i < length old → IsResting lock plan (get_or old i d))
     → ((i : ℕ) (d : Worker) (e : Vec Reply) → i < length old → IsExchanged (get_or old i d) (get_or rooms i e) (get_or new i d) (get_or left i e))
-    → (i : ℕ) (d : Worker) → i < length old → IsReady lock plan (get_or new i d).session.handle (get_or new i d).session.workspace
+    → (i : ℕ) (d : Worker) → i < length old
+    → IsReady lock plan (get_or new i d).session.handle (get_or new i d).session.workspace
 ready-all lock plan old new rooms left many resting exchanged i d lt =
     let some = there_is rooms i (omega (arith, many)) in
     let one = exchanged i d some.0 lt in
@@ -51,7 +55,8 @@ ready-all lock plan old new rooms left many resting exchanged i d lt =
 
 module _ (formats : Formats) {F : Type 0} (lock : Place Told) (plan : Plan F) (phase : List Steps) where
   -- what a session did in the phase, from its beginning to the end
-  through-one : (old given taken back : Worker) (room left shown : Vec Reply) (new : Worker) → IsExchanged old room given left → Works formats lock plan (steps_in phase given.session.number) given taken
+  through-one : (old given taken back : Worker) (room left shown : Vec Reply) (new : Worker)
+      → IsExchanged old room given left → Works formats lock plan (steps_in phase given.session.number) given taken
       → IsExchanged taken left back shown → Meets lock plan back new
       → GoesOn formats lock plan (steps_in phase old.session.number) shown.items old.session.handle old.session.workspace new.session.handle new.session.workspace
   through-one old given taken back room left shown new out works home meets =
@@ -77,18 +82,24 @@ module _ (formats : Formats) {F : Type 0} (lock : Place Told) (plan : Plan F) (p
       pub left_many : length left ≡ length old
       pub shown_many : length shown ≡ length old
       pub resting : (i : ℕ) (d : Worker) → i < length old → IsResting lock plan (get_or old i d)
-      pub out : (i : ℕ) (d : Worker) (e : Vec Reply) → i < length old → IsExchanged (get_or old i d) (get_or rooms i e) (get_or given i d) (get_or left i e)
-      pub works : (i : ℕ) (d : Worker) → i < length given → Works formats lock plan (steps_in phase (get_or given i d).session.number) (get_or given i d) (get_or taken i d)
-      pub home : (i : ℕ) (d : Worker) (e : Vec Reply) → i < length taken → IsExchanged (get_or taken i d) (get_or left i e) (get_or back i d) (get_or shown i e)
+      pub out : (i : ℕ) (d : Worker) (e : Vec Reply) → i < length old
+          → IsExchanged (get_or old i d) (get_or rooms i e) (get_or given i d) (get_or left i e)
+      pub works : (i : ℕ) (d : Worker) → i < length given
+          → Works formats lock plan (steps_in phase (get_or given i d).session.number) (get_or given i d) (get_or taken i d)
+      pub home : (i : ℕ) (d : Worker) (e : Vec Reply) → i < length taken
+          → IsExchanged (get_or taken i d) (get_or left i e) (get_or back i d) (get_or shown i e)
       pub meets : (i : ℕ) (d : Worker) → i < length back → Meets lock plan (get_or back i d) (get_or new i d)
-      pub all : (i j : ℕ) (d : Worker) → i < length back → j < length back → IsPrefix (get_or back j d).session.handle.seen (get_or new i d).session.handle.seen
+      pub all : (i j : ℕ) (d : Worker) → i < length back → j < length back
+          → IsPrefix (get_or back j d).session.handle.seen (get_or new i d).session.handle.seen
 
-    numbers_stay : Parts → (i : ℕ) (d : Worker) → i < length old → number_in (get_or new i d) ≡ number_in (get_or old i d)
+    numbers_stay : Parts → (i : ℕ) (d : Worker) → i < length old
+        → number_in (get_or new i d) ≡ number_in (get_or old i d)
     numbers_stay parts i d lt =
         let some = there_is rooms i (omega (arith, parts.rooms_many)) in
         let out = parts.out i d some.0 lt in
         let home = parts.home i d some.0 (omega (arith, parts.taken_many)) in
-        (parts.meets i d (omega (arith, parts.back_many))).session ∙ ap (λ s. s.number) home.session ∙ (parts.works i d (omega (arith, parts.given_many))).number ∙ ap (λ s. s.number) out.session
+        (parts.meets i d (omega (arith, parts.back_many))).session ∙ ap (λ s. s.number) home.session
+        ∙ (parts.works i d (omega (arith, parts.given_many))).number ∙ ap (λ s. s.number) out.session
 
     goes : Parts → (i : ℕ) (d : Worker) → i < length old
         → GoesOn formats lock plan (in_row i (map (steps_in phase) (map number_in old))) (in_row i (map told_in shown)) (get_or old i d).session.handle (get_or old i d).session.workspace (get_or new i d).session.handle
@@ -136,7 +147,8 @@ module _ (formats : Formats) {F : Type 0} (lock : Place Told) (plan : Plan F) (p
             let home = parts.home k e some.0 (omega (arith, parts.taken_many, parts.back_many)) in
             subst (λ s. IsHandle lock plan s.handle) (sym home.session) (parts.works k e (omega (arith, parts.given_many, parts.back_many))).goes.ready.handle_is
 
-    pub through : Parts → IsThrough formats lock plan (map (steps_in phase) (map number_in old)) (map told_in shown) old new
+    pub through : Parts
+        → IsThrough formats lock plan (map (steps_in phase) (map number_in old)) (map told_in shown) old new
     through parts = record {
       many = parts.new_many;
       told = length-map shown told_in ∙ parts.shown_many;
@@ -151,7 +163,9 @@ module _ (formats : Formats) {F : Type 0} (lock : Place Told) (plan : Plan F) (p
     }
 
 -- the handles that took their steps are the store's when the rooms have come back
-pub home-handles : (formats : Formats) {F : Type 0} (lock : Place Told) (plan : Plan F) (phase : List Steps) (given taken back : List Worker) (left shown : List (Vec Reply)) → length taken ≡ length given → length left ≡ length taken
+pub home-handles : (formats : Formats) {F : Type 0} (lock : Place Told) (plan : Plan F) (phase : List Steps)
+    (given taken back : List Worker) (left shown : List (Vec Reply)) → length taken ≡ length given
+    → length left ≡ length taken
     → ((i : ℕ) (d : Worker) → i < length given → Works formats lock plan (steps_in phase (get_or given i d).session.number) (get_or given i d) (get_or taken i d))
     → ((i : ℕ) (d : Worker) (e : Vec Reply) → i < length taken → IsExchanged (get_or taken i d) (get_or left i e) (get_or back i d) (get_or shown i e))
     → (i : ℕ) (d : Worker) → i < length taken → IsHandle lock plan (get_or back i d).session.handle

@@ -43,13 +43,16 @@ module _ {A : Type 0} (w : A → ℕ) where
   in-nothing zero = refl
   in-nothing (suc i) = refl
 
-  row-total : (row : List (List A)) (n : ℕ) → length row ≤ n → sum_by (sum_by w) row ≡ total (λ i. sum_by w (in_row i row)) n
+  row-total : (row : List (List A)) (n : ℕ) → length row ≤ n
+      → sum_by (sum_by w) row ≡ total (λ i. sum_by w (in_row i row)) n
   row-total [] n le = sym (total-none (λ i. sum_by w (in_row i [])) n in-nothing)
   row-total (x ∷ row) zero le = absurd (omega arith)
   row-total (x ∷ row) (suc n) le =
-      sum_by-cons (sum_by w) x row ∙ ap (λ k. sum_by w x + k) (row-total row n (omega arith)) ∙ sym (total-front (λ i. sum_by w (in_row i (x ∷ row))) n)
+      sum_by-cons (sum_by w) x row ∙ ap (λ k. sum_by w x + k) (row-total row n (omega arith))
+      ∙ sym (total-front (λ i. sum_by w (in_row i (x ∷ row))) n)
 
-  pub rows-total : (n : ℕ) (rows : List (List (List A))) → AreNarrow n rows → sum_by (λ row. sum_by (sum_by w) row) rows ≡ total (λ i. sum_by w (of_session i rows)) n
+  pub rows-total : (n : ℕ) (rows : List (List (List A))) → AreNarrow n rows
+      → sum_by (λ row. sum_by (sum_by w) row) rows ≡ total (λ i. sum_by w (of_session i rows)) n
   rows-total n [] narrow = sym (total-none (λ i. sum_by w (of_session {A = A} i [])) n (λ i. refl))
   rows-total n (row ∷ rows) narrow =
       let here = row-total row n narrow.0 in
@@ -60,7 +63,9 @@ module _ {A : Type 0} (w : A → ℕ) where
       omega arith
 
 -- the rows of a script's replies have a place for each session
-pub reply-rows_narrow : (sessions : List ℕ) (phases : List Phase) (answers : List (List (List Reply))) → AreNarrow (length sessions) (rows_by sessions phases answers)
+pub reply-rows_narrow : (sessions : List ℕ) (phases : List Phase) (answers : List (List (List Reply)))
+    → AreNarrow (length sessions) (rows_by sessions phases answers)
 reply-rows_narrow sessions [] answers = tt
 reply-rows_narrow sessions (phase ∷ phases) [] = tt
-reply-rows_narrow sessions (phase ∷ phases) (one ∷ answers) = (omega (arith, length-map sessions (replies_in phase.sessions one)), reply-rows_narrow sessions phases answers)
+reply-rows_narrow sessions (phase ∷ phases) (one ∷ answers) =
+    (omega (arith, length-map sessions (replies_in phase.sessions one)), reply-rows_narrow sessions phases answers)

@@ -49,7 +49,8 @@ undo-memory (Err (undo_fault.Get why)) = inr (λ e. absurd cc)
 undo-memory (Err (undo_fault.Set why)) = inr (λ e. absurd cc)
 
 -- what an undoing adds to the story is what its reply tells
-undo-failures : (set : Prepared) (result : Result Done UndoFault) → failures_in (told_by_undo set result) ≡ failures_told (undo_reply result)
+undo-failures : (set : Prepared) (result : Result Done UndoFault)
+    → failures_in (told_by_undo set result) ≡ failures_told (undo_reply result)
 undo-failures set (Ok d) = told-failures set (Ok d)
 undo-failures set (Err (undo_fault.Set (set_fault.Commit why))) = told-failures set (Err why)
 undo-failures set (Err (undo_fault.Set (set_fault.Prepare why))) = refl
@@ -58,7 +59,8 @@ undo-failures set (Err (undo_fault.Overtaken name by front)) = refl
 undo-failures set (Err (undo_fault.Get why)) = refl
 undo-failures set (Err undo_fault.Memory) = refl
 
-undo-refusals : (set : Prepared) (result : Result Done UndoFault) → refusals_in (told_by_undo set result) ≡ refusals_told (undo_reply result)
+undo-refusals : (set : Prepared) (result : Result Done UndoFault)
+    → refusals_in (told_by_undo set result) ≡ refusals_told (undo_reply result)
 undo-refusals set (Ok d) = told-refusals set (Ok d)
 undo-refusals set (Err (undo_fault.Set (set_fault.Commit why))) = told-refusals set (Err why)
 undo-refusals set (Err (undo_fault.Set (set_fault.Prepare why))) = refl
@@ -77,7 +79,8 @@ module _ (formats : Formats) {F : Type 0} (lock : Place Told) (plan : Plan F) (u
 
   -- what it comes to by its answer
   abbrev Came : Result Done UndoFault → Type 0
-  Came answer = IsUndoneBy formats (undo_by plan.mounted old h.found undone) before.keys (record_of new.rec) after answer
+  Came answer =
+      IsUndoneBy formats (undo_by plan.mounted old h.found undone) before.keys (record_of new.rec) after answer
 
   later_is : commits_of new.seen ≡ found ++ commits_of (told_by_undo set result)
   later_is = ap commits_of h.sees ∙ commits-append h.found (told_by_undo set result)
@@ -90,12 +93,16 @@ module _ (formats : Formats) {F : Type 0} (lock : Place Told) (plan : Plan F) (u
 
   -- ---- what the step means
 
-  stands-so : (answer : Result Done UndoFault) → commits_of new.seen ≡ found ++ commits_of (told_by_undo set answer) → UndoStands (commits_of new.seen) found set answer
+  stands-so : (answer : Result Done UndoFault) → commits_of new.seen ≡ found ++ commits_of (told_by_undo set answer)
+      → UndoStands (commits_of new.seen) found set answer
   stands-so (Ok d) is = stands found (commits_of new.seen) set (Ok d) is
   stands-so (Err why) is = (commits_of (told_by_undo set (Err why)), sym is)
 
-  told-so : (answer : Result Done UndoFault) → Came answer → commits_of new.seen ≡ found ++ commits_of (told_by_undo set answer) → undo_told (length found) answer ≤ length (commits_of new.seen)
-  told-so (Ok (Committed n aside)) came is = omega (arith, came.judged.0, ap length is, length-append found (commit_of set ∷ []))
+  told-so : (answer : Result Done UndoFault) → Came answer
+      → commits_of new.seen ≡ found ++ commits_of (told_by_undo set answer)
+      → undo_told (length found) answer ≤ length (commits_of new.seen)
+  told-so (Ok (Committed n aside)) came is =
+      omega (arith, came.judged.0, ap length is, length-append found (commit_of set ∷ []))
   told-so (Ok (Same front aside)) came is = absurd came
   told-so (Err why) came is = omega (arith, ap length is, length-append found (commits_of (told_by_undo set (Err why))))
 
@@ -103,7 +110,8 @@ module _ (formats : Formats) {F : Type 0} (lock : Place Told) (plan : Plan F) (u
   unchanged : result ≡ Err undo_fault.Memory → (record_of new.rec ≡ record_of old.rec) × (after ≡ before.keys)
   unchanged memory = let came : Came (Err undo_fault.Memory) = subst Came memory h.undone in (came.1, came.2)
 
-  undo-means : (told : ℕ) (watching : Option Watching) → told ≤ length (commits_of old.seen) → (result ≡ Err undo_fault.Memory) ⊎ (result ≢ Err undo_fault.Memory)
+  undo-means : (told : ℕ) (watching : Option Watching) → told ≤ length (commits_of old.seen)
+      → (result ≡ Err undo_fault.Memory) ⊎ (result ≢ Err undo_fault.Memory)
       → (last : ℕ) × (last ≤ length (commits_of new.seen))
       × Means formats plan.mounted (proc_of old.rec) old.number (commits_of new.seen) (session_of old (held before watching) told) (Undo undone) (undo_reply result) (session_of new (record { working = after; watching = watching }) last)
   undo-means told watching le (inr known) = (
@@ -134,7 +142,9 @@ module _ (formats : Formats) {F : Type 0} (lock : Place Told) (plan : Plan F) (u
 
   -- ---- what the handle made
 
-  numbers-so : (answer : Result Done UndoFault) → Came answer → numbers_from old.number (1 + length found) (commits_of (told_by_undo set answer)) ≡ numbers_told (undo_reply answer)
+  numbers-so : (answer : Result Done UndoFault) → Came answer
+      → numbers_from old.number (1 + length found) (commits_of (told_by_undo set answer))
+      ≡ numbers_told (undo_reply answer)
   numbers-so (Ok (Committed n aside)) came =
       new-numbers formats (store_at plan.mounted) false old.number found (replay (store_at plan.mounted).start found) set (Ok (Committed n aside)) refl came.judged
   numbers-so (Ok (Same front aside)) came = absurd came
@@ -147,7 +157,8 @@ module _ (formats : Formats) {F : Type 0} (lock : Place Told) (plan : Plan F) (u
   numbers-so (Err undo_fault.Memory) came = refl
 
   module _ (was : IsReady lock plan old before) (is : IsHandle lock plan new) (number : new.number ≡ old.number) (procs : proc_of new.rec ≡ proc_of old.rec) where
-    own-numbers : numbers_by old.number (commits_of new.seen) ≡ numbers_by old.number (commits_of old.seen) ++ numbers_told (undo_reply result)
+    own-numbers : numbers_by old.number (commits_of new.seen)
+        ≡ numbers_by old.number (commits_of old.seen) ++ numbers_told (undo_reply result)
     own-numbers =
         ap (numbers_by old.number) later_is
         ∙ numbers_from-append old.number 1 found (commits_of (told_by_undo set result))
@@ -161,8 +172,12 @@ module _ (formats : Formats) {F : Type 0} (lock : Place Told) (plan : Plan F) (u
         (omega (arith, ap failures_in h.gains, failures-append old.own (told_by_undo set result), undo-failures set result))
         (omega (arith, ap refusals_in h.gains, refusals-append old.own (told_by_undo set result), undo-refusals set result))
 
-    pub undo-goes : (done : Done) → result ≡ Ok done → GoesOn formats lock plan (Undo undone ∷ []) (reply.Undone done ∷ []) old before new (record before { keys = after })
-    undo-goes done e = subst (λ (r : Result Done UndoFault). GoesOn formats lock plan (Undo undone ∷ []) (undo_reply r ∷ []) old before new (record before { keys = after })) e undone-goes
+    pub undo-goes : (done : Done) → result ≡ Ok done
+        → GoesOn formats lock plan (Undo undone ∷ []) (reply.Undone done ∷ []) old before new (record before { keys = after })
+    undo-goes done e =
+        subst (λ (r : Result Done UndoFault). GoesOn formats lock plan (Undo undone ∷ []) (undo_reply r ∷ []) old before new (record before { keys = after })) e undone-goes
 
-    pub undo-refused-goes : (why : UndoFault) → result ≡ Err why → GoesOn formats lock plan (Undo undone ∷ []) (reply.UndoRefused why ∷ []) old before new (record before { keys = after })
-    undo-refused-goes why e = subst (λ (r : Result Done UndoFault). GoesOn formats lock plan (Undo undone ∷ []) (undo_reply r ∷ []) old before new (record before { keys = after })) e undone-goes
+    pub undo-refused-goes : (why : UndoFault) → result ≡ Err why
+        → GoesOn formats lock plan (Undo undone ∷ []) (reply.UndoRefused why ∷ []) old before new (record before { keys = after })
+    undo-refused-goes why e =
+        subst (λ (r : Result Done UndoFault). GoesOn formats lock plan (Undo undone ∷ []) (undo_reply r ∷ []) old before new (record before { keys = after })) e undone-goes

@@ -21,21 +21,31 @@ use Rattle.watch_feed.proofs.WatchLemmas.{collected-twice}
 
 -- ---- while more is seen
 
-pub looked-more : (history longer : List Commit) (watch : WatchValue) (watched : Watching) → IsPrefix history longer → HasLooked history watch watched → HasLooked longer watch watched
-looked-more history longer watch watched p h = record { past = h.past; begins = prefix-trans h.past history longer h.begins p; from = h.from; watch_is = h.watch_is }
+pub looked-more : (history longer : List Commit) (watch : WatchValue) (watched : Watching) → IsPrefix history longer
+    → HasLooked history watch watched → HasLooked longer watch watched
+looked-more history longer watch watched p h =
+    record {
+      past = h.past;
+      begins = prefix-trans h.past history longer h.begins p;
+      from = h.from;
+      watch_is = h.watch_is;
+    }
 
-pub stands-more : (history longer : List Commit) (watch : Option WatchValue) (watched : Option Watching) → IsPrefix history longer → StandsFor history watch watched → StandsFor longer watch watched
+pub stands-more : (history longer : List Commit) (watch : Option WatchValue) (watched : Option Watching)
+    → IsPrefix history longer → StandsFor history watch watched → StandsFor longer watch watched
 stands-more history longer None None p h = tt
 stands-more history longer None (Some watched) p h = absurd h
 stands-more history longer (Some watch) None p h = absurd h
 stands-more history longer (Some watch) (Some watched) p h = looked-more history longer watch watched p h
 
-pub within-more : (seen longer : List Told) (watch : Option WatchValue) → IsPrefix seen longer → IsWithin seen watch → IsWithin longer watch
+pub within-more : (seen longer : List Told) (watch : Option WatchValue) → IsPrefix seen longer → IsWithin seen watch
+    → IsWithin longer watch
 within-more seen longer None p h = tt
 within-more seen longer (Some watch) p h = omega (arith, h, longer-commits seen longer p)
 
 -- one that stands for something has looked at no more than was seen
-pub stands-within : (seen : List Told) (watch : Option WatchValue) (watched : Option Watching) → StandsFor (commits_of seen) watch watched → IsWithin seen watch
+pub stands-within : (seen : List Told) (watch : Option WatchValue) (watched : Option Watching)
+    → StandsFor (commits_of seen) watch watched → IsWithin seen watch
 stands-within seen None watched h = tt
 stands-within seen (Some watch) None h = absurd h
 stands-within seen (Some watch) (Some watched) h =
@@ -44,7 +54,8 @@ stands-within seen (Some watch) (Some watched) h =
 -- ---- when it looks
 
 -- a fresh one has nothing more to tell of the commits that it begins behind
-pub fresh-again : (history : List Commit) (parent : Name) (room : ℕ) → fresh_watch parent room (length history) ≡ collected (fresh_watch parent room (length history)) history
+pub fresh-again : (history : List Commit) (parent : Name) (room : ℕ)
+    → fresh_watch parent room (length history) ≡ collected (fresh_watch parent room (length history)) history
 fresh-again history parent room =
     let none : news history (length history) (length history) parent ≡ [] = news-none parent history (length history) in
     let made : List Changed → ℕ → WatchValue = λ ring missed. record { parent = parent; room = room; front = length history; ring = ring; missed = missed } in

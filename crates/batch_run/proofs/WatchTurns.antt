@@ -48,7 +48,9 @@ module _ (formats : Formats) {F : Type 0} (lock : Place Told) (plan : Plan F) (o
       })
       (sym (append-nil (numbers_by old.number history))) (omega arith) (omega arith)
 
-  pub watch-goes : (after : Workspace) (answer : Reply) → IsWatch parent room (length (commits_of old.seen)) before after answer → GoesOn formats lock plan (Watch parent room ∷ []) (answer ∷ []) old before old after
+  pub watch-goes : (after : Workspace) (answer : Reply)
+      → IsWatch parent room (length (commits_of old.seen)) before after answer
+      → GoesOn formats lock plan (Watch parent room ∷ []) (answer ∷ []) old before old after
   watch-goes after answer (inl begun) =
       subst (λ (a : Reply). GoesOn formats lock plan (Watch parent room ∷ []) (a ∷ []) old before old after) (sym begun.0)
       (subst (λ (w : Workspace). GoesOn formats lock plan (Watch parent room ∷ []) (reply.Watching (length (commits_of old.seen)) ∷ []) old before old w) (sym begun.1) begun-goes)
@@ -59,7 +61,8 @@ module _ (formats : Formats) {F : Type 0} (lock : Place Told) (plan : Plan F) (o
 -- ---- a poll where nothing is watched
 
 module _ (formats : Formats) {F : Type 0} (lock : Place Told) (plan : Plan F) (old : HandleValue) (before : Workspace) where
-  unwatched-takes : before.watch ≡ None → (told : ℕ) (watching : Option Watching) → told ≤ length (commits_of old.seen) → StandsFor (commits_of old.seen) None watching
+  unwatched-takes : before.watch ≡ None → (told : ℕ) (watching : Option Watching) → told ≤ length (commits_of old.seen)
+      → StandsFor (commits_of old.seen) None watching
       → Takes formats lock plan old.number (proc_of old.rec) (session_of old (held before watching) told) Poll reply.NoWatch old before
   unwatched-takes none told (Some watched) le stands = absurd stands
   unwatched-takes none told None le stands = record {
@@ -70,7 +73,8 @@ module _ (formats : Formats) {F : Type 0} (lock : Place Told) (plan : Plan F) (o
     means = inl (record { none = refl; reply_is = refl; new_is = refl });
   }
 
-  pub unwatched-goes : IsReady lock plan old before → before.watch ≡ None → GoesOn formats lock plan (Poll ∷ []) (reply.NoWatch ∷ []) old before old before
+  pub unwatched-goes : IsReady lock plan old before → before.watch ≡ None
+      → GoesOn formats lock plan (Poll ∷ []) (reply.NoWatch ∷ []) old before old before
   unwatched-goes was none =
       goes-one formats lock plan Poll reply.NoWatch old old before before was refl refl (prefix-self old.seen)
       (λ told watching le stands. unwatched-takes none told watching le (subst (λ (w : Option WatchValue). StandsFor (commits_of old.seen) w watching) none stands))
@@ -85,7 +89,8 @@ module _ (present : List Commit) (watch after : WatchValue) (answer : Reply) whe
   asked-within (inr none) le = omega (arith, le, ap (λ (w : WatchValue). w.front) none.1)
 
   asked-silent : IsAsked present watch after answer → IsSilent answer
-  asked-silent (inl (inl told)) = subst IsSilent (sym told.0) (record { numbers = refl; failures = refl; refusals = refl })
+  asked-silent (inl (inl told)) =
+      subst IsSilent (sym told.0) (record { numbers = refl; failures = refl; refusals = refl })
   asked-silent (inl (inr none)) = silent_memory answer none.0
   asked-silent (inr none) = silent_memory answer none.0
 
@@ -95,7 +100,8 @@ module _ (formats : Formats) {F : Type 0} (lock : Place Told) (plan : Plan F) (o
   there = record before { watch = Some after }
 
   -- without memory the session stays
-  stayed : (told : ℕ) (watched : Watching) → told ≤ length (commits_of old.seen) → answer ≡ reply.Memory → HasLooked (commits_of new.seen) after watched
+  stayed : (told : ℕ) (watched : Watching) → told ≤ length (commits_of old.seen) → answer ≡ reply.Memory
+      → HasLooked (commits_of new.seen) after watched
       → Takes formats lock plan old.number (proc_of old.rec) (session_of old (held before (Some watched)) told) Poll answer new there
   stayed told watched le memory looked = record {
     told = told;
@@ -105,7 +111,8 @@ module _ (formats : Formats) {F : Type 0} (lock : Place Told) (plan : Plan F) (o
     means = inr (inr (record { reply_is = memory; new_is = ap (λ (r : Record). session_with told (held before (Some watched)) r) (ap record_of listens.rec) }));
   }
 
-  asked-takes : IsAsked (commits_of new.seen) watch after answer → (told : ℕ) (watching : Option Watching) → told ≤ length (commits_of old.seen) → StandsFor (commits_of old.seen) (Some watch) watching
+  asked-takes : IsAsked (commits_of new.seen) watch after answer → (told : ℕ) (watching : Option Watching)
+      → told ≤ length (commits_of old.seen) → StandsFor (commits_of old.seen) (Some watch) watching
       → Takes formats lock plan old.number (proc_of old.rec) (session_of old (held before watching) told) Poll answer new there
   asked-takes asked told None le stands = absurd stands
   asked-takes (inl (inl hears)) told (Some watched) le stands =
@@ -134,7 +141,8 @@ module _ (formats : Formats) {F : Type 0} (lock : Place Told) (plan : Plan F) (o
       let more = commits-prefix old.seen new.seen listens.seen in
       stayed told watched le none.0 (subst (λ (w : WatchValue). HasLooked (commits_of new.seen) w watched) (sym none.1) (looked-more (commits_of old.seen) (commits_of new.seen) watch watched more stands))
 
-  pub poll-goes : IsReady lock plan old before → before.watch ≡ Some watch → watch.front ≤ length (commits_of old.seen) → IsAsked (commits_of new.seen) watch after answer
+  pub poll-goes : IsReady lock plan old before → before.watch ≡ Some watch → watch.front ≤ length (commits_of old.seen)
+      → IsAsked (commits_of new.seen) watch after answer
       → GoesOn formats lock plan (Poll ∷ []) (answer ∷ []) old before new there
   poll-goes was is le asked =
       let makes = silent-makes old new answer was.handle_is.own listens.handle.own (record { number = listens.number; seen = listens.seen; own = listens.own }) (asked-silent (commits_of new.seen) watch after answer asked) in

@@ -27,7 +27,8 @@ pub record IsFresh {F : Type 0} (lock : Place Told) (plan : Plan F) (number : �
 
 -- handles that were just opened, numbered from 1, each with the keys in `proc` of its number
 abbrev pub AreFresh : {F : Type 0} → Place Told → Plan F → (ℕ → KeyMap) → List HandleValue → Type 0
-AreFresh lock plan procs handles = (i : ℕ) (d : HandleValue) → i < length handles → IsFresh lock plan (i + 1) (procs (i + 1)) (get_or handles i d)
+AreFresh lock plan procs handles =
+    (i : ℕ) (d : HandleValue) → i < length handles → IsFresh lock plan (i + 1) (procs (i + 1)) (get_or handles i d)
 
 -- so many handles of the store come back, numbered from 1
 pub record AreBack {F : Type 0} (lock : Place Told) (plan : Plan F) (count : ℕ) (handles : List HandleValue) : Type 0 where
@@ -39,7 +40,8 @@ pub record AreBack {F : Type 0} (lock : Place Told) (plan : Plan F) (count : ℕ
 -- are those that the handle has seen, and it has no others
 pub record Closes (count : ℕ) (history : List Commit) (handles : List HandleValue) : Type 0 where
   pub seen : (i : ℕ) (d : HandleValue) → i < count → IsPrefix (commits_of (get_or handles i d).seen) history
-  pub own : (i : ℕ) (d : HandleValue) → i < count → numbers_by (i + 1) history ≡ numbers_by (i + 1) (commits_of (get_or handles i d).seen)
+  pub own : (i : ℕ) (d : HandleValue) → i < count
+      → numbers_by (i + 1) history ≡ numbers_by (i + 1) (commits_of (get_or handles i d).seen)
   pub only : (number : ℕ) → (number ≡ 0) ⊎ (count < number) → numbers_by number history ≡ []
 
 -- what a handle made has as many sets that failed, and as many refused patterns, as the replies of the session at its
@@ -50,4 +52,5 @@ pub record TellsOwn (script : Script) (transcripts : Transcripts) (place : ℕ) 
 
 -- so it is of each of some handles
 abbrev pub TellOwn : Script → List HandleValue → Transcripts → Type 0
-TellOwn script handles transcripts = (i : ℕ) (d : HandleValue) → i < length handles → TellsOwn script transcripts i (get_or handles i d)
+TellOwn script handles transcripts =
+    (i : ℕ) (d : HandleValue) → i < length handles → TellsOwn script transcripts i (get_or handles i d)

@@ -47,10 +47,12 @@ pub record Meets {F : Type 0} (lock : Place Told) (plan : Plan F) (old new : Wor
 
 -- all sessions can take their steps, there is room for the replies to their steps of a phase, and each took them
 abbrev pub AreReady : {F : Type 0} → Place Told → Plan F → List Worker → Type 0
-AreReady lock plan workers = (i : ℕ) (d : Worker) → i < length workers → IsReady lock plan (slice_index_or workers i d).session.handle (slice_index_or workers i d).session.workspace
+AreReady lock plan workers =
+    (i : ℕ) (d : Worker) → i < length workers → IsReady lock plan (slice_index_or workers i d).session.handle (slice_index_or workers i d).session.workspace
 
 abbrev pub HaveOwnRoom : List Steps → List Worker → Type 0
-HaveOwnRoom phase workers = (i : ℕ) (d : Worker) → i < length workers → IsRoom (length (steps_in phase (slice_index_or workers i d).session.number)) (slice_index_or workers i d).told
+HaveOwnRoom phase workers =
+    (i : ℕ) (d : Worker) → i < length workers → IsRoom (length (steps_in phase (slice_index_or workers i d).session.number)) (slice_index_or workers i d).told
 
 abbrev pub AllWork : {F : Type 0} → Formats → Place Told → Plan F → List Steps → List Worker → List Worker → Type 0
 AllWork formats lock plan phase old new =
@@ -66,4 +68,5 @@ pub record IsThrough (formats : Formats) {F : Type 0} (lock : Place Told) (plan 
       → GoesOn formats lock plan (in_row i steps) (in_row i replies) (get_or old i d).session.handle (get_or old i d).session.workspace (get_or new i d).session.handle (get_or new i d).session.workspace
   pub numbers : over number_in new ≡ over number_in old
   pub idle : (i : ℕ) (d : Worker) → i < length old → (get_or new i d).told.items ≡ []
-  pub met : (i j : ℕ) (d : Worker) → i < length old → j < length old → count_seen (get_or new j d).session.handle.number (get_or new j d).session.handle ≤ count_seen (get_or new j d).session.handle.number (get_or new i d).session.handle
+  pub met : (i j : ℕ) (d : Worker) → i < length old → j < length old
+      → count_seen (get_or new j d).session.handle.number (get_or new j d).session.handle ≤ count_seen (get_or new j d).session.handle.number (get_or new i d).session.handle

@@ -46,4 +46,5 @@ pub record IsPlayed (formats : Formats) {D P : Type 0} (g : Ghosts D) (refused :
   pub refused_by : HasRisenBy (refusals_in story) (refused core.patterns) (refused played.closed.patterns)
   pub goes : GoesOn g core.journal.disk played.closed.disk
   pub left_alone : BeginsNone story → core.wrote ≡ false → IsFresh core.journal → played.closed.disk ≡ core.journal.disk
-  pub disk : (start : D) (first : Run) → first.names ≡ table_files (store_at files) → IsStore g start core.journal first → IsHandedOn formats g files start first core.journal.disk story played.closed.disk
+  pub disk : (start : D) (first : Run) → first.names ≡ table_files (store_at files) → IsStore g start core.journal first
+      → IsHandedOn formats g files start first core.journal.disk story played.closed.disk

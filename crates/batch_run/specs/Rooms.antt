@@ -16,7 +16,8 @@ pub record IsRoom (count : ℕ) (room : Vec Reply) : Type 0 where
 -- for each session of these numbers a room for its steps in a phase
 pub record HaveRoom (numbers : List ℕ) (phase : List Steps) (rooms : List (Vec Reply)) : Type 0 where
   pub many : length rooms ≡ length numbers
-  pub each : (i : ℕ) (e : Vec Reply) → i < length rooms → IsRoom (length (steps_in phase (get_or numbers i 0))) (get_or rooms i e)
+  pub each : (i : ℕ) (e : Vec Reply) → i < length rooms
+      → IsRoom (length (steps_in phase (get_or numbers i 0))) (get_or rooms i e)
 
 -- these, and place to show the replies of each session that the phase names
 pub record AreRooms (numbers : List ℕ) (phase : List Steps) (rooms : PhaseRooms) : Type 0 where
@@ -27,7 +28,8 @@ pub record AreRooms (numbers : List ℕ) (phase : List Steps) (rooms : PhaseRoom
 -- such rooms for each phase
 pub record ArePhaseRooms (numbers : List ℕ) (phases : List Phase) (rooms : List PhaseRooms) : Type 0 where
   pub many : length rooms ≡ length phases
-  pub each : (p : ℕ) (phase : Phase) (e : PhaseRooms) → p < length rooms → AreRooms numbers (get_or phases p phase).sessions (get_or rooms p e)
+  pub each : (p : ℕ) (phase : Phase) (e : PhaseRooms) → p < length rooms
+      → AreRooms numbers (get_or phases p phase).sessions (get_or rooms p e)
 
 abbrev pub told_in : Vec Reply → List Reply
 told_in room = room.items
@@ -43,4 +45,5 @@ pub record KeepShown (old new : List PhaseRooms) : Type 0 where
 
 -- it is empty, and wide enough for the sessions that each phase names
 abbrev pub AreWide : List Phase → List PhaseRooms → Type 0
-AreWide phases rooms = (p : ℕ) (phase : Phase) (e : PhaseRooms) → p < length rooms → ((get_or rooms p e).shown.items ≡ []) × (length (get_or phases p phase).sessions ≤ vec_capacity (get_or rooms p e).shown)
+AreWide phases rooms =
+    (p : ℕ) (phase : Phase) (e : PhaseRooms) → p < length rooms → ((get_or rooms p e).shown.items ≡ []) × (length (get_or phases p phase).sessions ≤ vec_capacity (get_or rooms p e).shown)

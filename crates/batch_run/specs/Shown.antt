@@ -17,7 +17,8 @@ IsOrdered script = All (λ (phase : Phase). AreAscending phase.sessions) script.
 
 -- the sessions that a phase names have different numbers
 abbrev pub IsApart : List Steps → Type 0
-IsApart phase = (i j : ℕ) (d : Steps) → i < j → j < length phase → number_of (get_or phase i d) ≢ number_of (get_or phase j d)
+IsApart phase =
+    (i j : ℕ) (d : Steps) → i < j → j < length phase → number_of (get_or phase i d) ≢ number_of (get_or phase j d)
 
 -- so they have in each phase
 abbrev pub AreApart : List Phase → Type 0

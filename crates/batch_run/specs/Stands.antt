@@ -55,10 +55,14 @@ pub record IsFull (count : ℕ) (steps : List (List Step)) (replies : List (List
 -- phases tell
 pub record Stand (formats : Formats) {F : Type 0} (lock : Place Told) (plan : Plan F) (procs : ℕ → KeyMap) (steps : List (List (List Step))) (replies : List (List (List Reply))) (workers : List Worker) : Type 0 where
   pub long : length replies ≡ length steps
-  pub full : (p : ℕ) (made : List (List Step)) (row : List (List Reply)) → slice_get steps p ≡ Some made → slice_get replies p ≡ Some row → IsFull (length workers) made row
-  pub each : (i : ℕ) (d : Worker) → i < length workers → HasTaken formats lock plan (procs (i + 1)) (length workers) i steps replies (get_or workers i d)
-  pub covers : (i : ℕ) (d : Worker) → i < length workers → count_told (length workers) replies ≤ length (commits_of (get_or workers i d).session.handle.seen)
-  pub phases : (p : ℕ) (row : List (List Reply)) → slice_get replies p ≡ Some row → All (All (IsAtLeast (count_told (length workers) (take p replies)))) row
+  pub full : (p : ℕ) (made : List (List Step)) (row : List (List Reply)) → slice_get steps p ≡ Some made
+      → slice_get replies p ≡ Some row → IsFull (length workers) made row
+  pub each : (i : ℕ) (d : Worker) → i < length workers
+      → HasTaken formats lock plan (procs (i + 1)) (length workers) i steps replies (get_or workers i d)
+  pub covers : (i : ℕ) (d : Worker) → i < length workers
+      → count_told (length workers) replies ≤ length (commits_of (get_or workers i d).session.handle.seen)
+  pub phases : (p : ℕ) (row : List (List Reply)) → slice_get replies p ≡ Some row
+      → All (All (IsAtLeast (count_told (length workers) (take p replies)))) row
 
 -- the steps of some sessions, in a row for each phase
 abbrev pub rows_of : List ℕ → List Phase → List (List (List Step))

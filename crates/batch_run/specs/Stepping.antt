@@ -31,7 +31,8 @@ held workspace watching = record { working = workspace.keys; watching = watching
 
 -- the session of a handle that was told of so many commits
 abbrev pub session_of : HandleValue → Held → ℕ → Session
-session_of handle holds told = record { working = holds.working; rec = record_of handle.rec; told = told; watching = holds.watching }
+session_of handle holds told =
+    record { working = holds.working; rec = record_of handle.rec; told = told; watching = holds.watching }
 
 -- A handle is one of a store, and the watch beside it has looked at no commit that it hasn't seen: so it can take steps
 pub record IsReady {F : Type 0} (lock : Place Told) (plan : Plan F) (handle : HandleValue) (workspace : Workspace) : Type 0 where
@@ -40,7 +41,8 @@ pub record IsReady {F : Type 0} (lock : Place Told) (plan : Plan F) (handle : Ha
 
 -- An edit became the working set; or there was no memory, and it stays
 abbrev pub IsEdit : KeyMap → KeyMap → KeyMap → Reply → Type 0
-IsEdit edited before after answer = ((answer ≡ reply.Quiet) × (after ≡ edited)) ⊎ ((answer ≡ reply.Memory) × (after ≡ before))
+IsEdit edited before after answer =
+    ((answer ≡ reply.Quiet) × (after ≡ edited)) ⊎ ((answer ≡ reply.Memory) × (after ≡ before))
 
 -- what was found is told; or there was no memory
 abbrev pub IsLook : Option Found → Reply → Type 0
@@ -64,8 +66,10 @@ pub record GoesOn (formats : Formats) {F : Type 0} (lock : Place Told) (plan : P
   pub number : new.number ≡ old.number
   pub procs : proc_of new.rec ≡ proc_of old.rec
   pub seen : IsPrefix old.seen new.seen
-  pub tells : (told : ℕ) (watching : Option Watching) → told ≤ length (commits_of old.seen) → StandsFor (commits_of old.seen) before.watch watching
+  pub tells : (told : ℕ) (watching : Option Watching) → told ≤ length (commits_of old.seen)
+      → StandsFor (commits_of old.seen) before.watch watching
       → Leads formats plan.mounted (proc_of old.rec) old.number (session_of old (held before watching) told) steps answers new after
-  pub own : numbers_by old.number (commits_of new.seen) ≡ numbers_by old.number (commits_of old.seen) ++ flat_map numbers_told answers
+  pub own : numbers_by old.number (commits_of new.seen)
+      ≡ numbers_by old.number (commits_of old.seen) ++ flat_map numbers_told answers
   pub failures : failures_in new.own ≡ failures_in old.own + sum_by failures_told answers
   pub refusals : refusals_in new.own ≡ refusals_in old.own + sum_by refusals_told answers

@@ -41,7 +41,8 @@ IsWatch parent room front before after answer =
 
 -- a watch tells what it has to tell; or there was no memory, and it stays
 abbrev pub IsTelling : WatchValue → WatchValue → Reply → Type 0
-IsTelling before after answer = ((answer ≡ reply.News (news_of before)) × (after ≡ polled before)) ⊎ ((answer ≡ reply.Memory) × (after ≡ before))
+IsTelling before after answer =
+    ((answer ≡ reply.News (news_of before)) × (after ≡ polled before)) ⊎ ((answer ≡ reply.Memory) × (after ≡ before))
 
 -- A watch has looked at a history, and tells what it has to tell then; or there was no memory to look or to tell, and
 -- it may have looked

@@ -17,9 +17,12 @@ pub fn meet_all<D: Disk, F: Formats + Drop, P: Patterns + Drop>(
     store: &SharedStore<D, F, P>,
     workers: &mut [Worker],
 )
-    requires { (i : ℕ) (d : Worker) → i < length workers.old → IsHandle (lock_of store.now) (plan_of store.now) (slice_index_or workers.old i d).session.handle }
-    ensures each { (i : ℕ) (d : Worker) → i < length workers.old → Meets (lock_of store.now) (plan_of store.now) (slice_index_or workers.old i d) (slice_index_or workers.new i d) }
-    ensures all { (i j : ℕ) (d : Worker) → i < length workers.old → j < length workers.old → IsPrefix (slice_index_or workers.old j d).session.handle.seen (slice_index_or workers.new i d).session.handle.seen }
+    requires { (i : ℕ) (d : Worker) → i < length workers.old
+        → IsHandle (lock_of store.now) (plan_of store.now) (slice_index_or workers.old i d).session.handle }
+    ensures each { (i : ℕ) (d : Worker) → i < length workers.old
+        → Meets (lock_of store.now) (plan_of store.now) (slice_index_or workers.old i d) (slice_index_or workers.new i d) }
+    ensures all { (i j : ℕ) (d : Worker) → i < length workers.old → j < length workers.old
+        → IsPrefix (slice_index_or workers.old j d).session.handle.seen (slice_index_or workers.new i d).session.handle.seen }
 {
     if let Some((first, others)) = workers.split_first_mut() {
         gather(store, first, others);
@@ -34,10 +37,12 @@ fn gather<D: Disk, F: Formats + Drop, P: Patterns + Drop>(
     others: &mut [Worker],
 )
     requires first { IsHandle (lock_of store.now) (plan_of store.now) first.old.session.handle }
-    requires others { (i : ℕ) (d : Worker) → i < length others.old → IsHandle (lock_of store.now) (plan_of store.now) (slice_index_or others.old i d).session.handle }
+    requires others { (i : ℕ) (d : Worker) → i < length others.old
+        → IsHandle (lock_of store.now) (plan_of store.now) (slice_index_or others.old i d).session.handle }
     ensures first { Meets (lock_of store.now) (plan_of store.now) first.old first.new }
     ensures others { others.new ≡ others.old }
-    ensures all { (i : ℕ) (d : Worker) → i < length others.old → IsPrefix (slice_index_or others.old i d).session.handle.seen first.new.session.handle.seen }
+    ensures all { (i : ℕ) (d : Worker) → i < length others.old
+        → IsPrefix (slice_index_or others.old i d).session.handle.seen first.new.session.handle.seen }
 {
     for other in others.iter_mut() {
         first.session.handle.meet(store, &mut other.session.handle);
@@ -51,10 +56,13 @@ fn spread<D: Disk, F: Formats + Drop, P: Patterns + Drop>(
     others: &mut [Worker],
 )
     requires first { IsHandle (lock_of store.now) (plan_of store.now) first.old.session.handle }
-    requires others { (i : ℕ) (d : Worker) → i < length others.old → IsHandle (lock_of store.now) (plan_of store.now) (slice_index_or others.old i d).session.handle }
+    requires others { (i : ℕ) (d : Worker) → i < length others.old
+        → IsHandle (lock_of store.now) (plan_of store.now) (slice_index_or others.old i d).session.handle }
     ensures first { first.new ≡ first.old }
-    ensures others { (i : ℕ) (d : Worker) → i < length others.old → Meets (lock_of store.now) (plan_of store.now) (slice_index_or others.old i d) (slice_index_or others.new i d) }
-    ensures all { (i : ℕ) (d : Worker) → i < length others.old → IsPrefix first.old.session.handle.seen (slice_index_or others.new i d).session.handle.seen }
+    ensures others { (i : ℕ) (d : Worker) → i < length others.old
+        → Meets (lock_of store.now) (plan_of store.now) (slice_index_or others.old i d) (slice_index_or others.new i d) }
+    ensures all { (i : ℕ) (d : Worker) → i < length others.old
+        → IsPrefix first.old.session.handle.seen (slice_index_or others.new i d).session.handle.seen }
 {
     for other in others.iter_mut() {
         other.session.handle.meet(store, &mut first.session.handle);

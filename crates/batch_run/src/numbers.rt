@@ -34,7 +34,8 @@ fn has_key(lines: &[ProcLine], number: u32) -> bool
 
 /// A session has a step.
 fn has_step(phases: &[Phase], number: u32) -> bool
-    ensures { result ≡ list_any (λ (phase : Phase). list_any (λ (steps : Steps). nat_eq steps.session number) phase.sessions) phases.now }
+    ensures { result
+        ≡ list_any (λ (phase : Phase). list_any (λ (steps : Steps). nat_eq steps.session number) phase.sessions) phases.now }
 {
     phases.iter().any(|phase| is_named(phase, number))
 }

@@ -48,10 +48,12 @@ pub fn all_phases<
     rooms: &mut [PhaseRooms],
 )
     requires flusher { IsFlusher (lock_of store.now) flusher.old }
-    requires resting { (i : ℕ) (d : Worker) → i < length workers.old → IsResting (lock_of store.now) (plan_of store.now) (slice_index_or workers.old i d) }
+    requires resting { (i : ℕ) (d : Worker) → i < length workers.old
+        → IsResting (lock_of store.now) (plan_of store.now) (slice_index_or workers.old i d) }
     requires rooms { ArePhaseRooms (over number_in workers.old) phases.now rooms.old }
     ensures flusher { IsFlusher (lock_of store.now) flusher.new }
-    ensures stand { (procs : ℕ → KeyMap) → Stand (formats_of F.Formats) (lock_of store.now) (plan_of store.now) procs [] [] workers.old
+    ensures stand { (procs : ℕ → KeyMap)
+        → Stand (formats_of F.Formats) (lock_of store.now) (plan_of store.now) procs [] [] workers.old
         → Stand (formats_of F.Formats) (lock_of store.now) (plan_of store.now) procs (rows_of (over number_in workers.old) phases.now) (over row_in rooms.new) workers.new }
     ensures shown { KeepShown rooms.old rooms.new }
 {
@@ -87,7 +89,8 @@ fn one_phase<
     rooms: &mut [Vec<Reply>],
 )
     requires flusher { IsFlusher (lock_of store.now) flusher.old }
-    requires resting { (i : ℕ) (d : Worker) → i < length workers.old → IsResting (lock_of store.now) (plan_of store.now) (slice_index_or workers.old i d) }
+    requires resting { (i : ℕ) (d : Worker) → i < length workers.old
+        → IsResting (lock_of store.now) (plan_of store.now) (slice_index_or workers.old i d) }
     requires rooms { HaveRoom (over number_in workers.old) phase.now rooms.old }
     ensures flusher { IsFlusher (lock_of store.now) flusher.new }
     ensures through { IsThrough (formats_of F.Formats) (lock_of store.now) (plan_of store.now) (over (steps_in phase.now) (over number_in workers.old)) (over told_in rooms.new) workers.old workers.new }
@@ -116,8 +119,10 @@ fn take_all<
     workers: &mut [Worker],
 )
     requires flusher { IsFlusher (lock_of store.now) flusher.old }
-    requires ready { (i : ℕ) (d : Worker) → i < length workers.old → IsReady (lock_of store.now) (plan_of store.now) (slice_index_or workers.old i d).session.handle (slice_index_or workers.old i d).session.workspace }
-    requires rooms { (i : ℕ) (d : Worker) → i < length workers.old → IsRoom (length (steps_in phase.now (slice_index_or workers.old i d).session.number)) (slice_index_or workers.old i d).told }
+    requires ready { (i : ℕ) (d : Worker) → i < length workers.old
+        → IsReady (lock_of store.now) (plan_of store.now) (slice_index_or workers.old i d).session.handle (slice_index_or workers.old i d).session.workspace }
+    requires rooms { (i : ℕ) (d : Worker) → i < length workers.old
+        → IsRoom (length (steps_in phase.now (slice_index_or workers.old i d).session.number)) (slice_index_or workers.old i d).told }
     ensures flusher { IsFlusher (lock_of store.now) flusher.new }
     ensures works { (i : ℕ) (d : Worker) → i < length workers.old
         → Works (formats_of F.Formats) (lock_of store.now) (plan_of store.now) (steps_in phase.now (slice_index_or workers.old i d).session.number) (slice_index_or workers.old i d) (slice_index_or workers.new i d) }
@@ -159,7 +164,8 @@ fn take_with_flushes<
         ensures { IsFlusher (lock_of store.entry.now) flusher.exit.now }
     { flush_often(rt, store, flushes, flusher) };
     let mut take = ||
-        requires { IsSync G.row × IsSend D.row × IsSync F.row × IsSend P.row × IsSync R.row × AreReady (lock_of store.now) (plan_of store.now) workers.now × HaveOwnRoom phase.now workers.now }
+        requires { IsSync G.row × IsSend D.row × IsSync F.row × IsSend P.row × IsSync R.row
+            × AreReady (lock_of store.now) (plan_of store.now) workers.now × HaveOwnRoom phase.now workers.now }
         ensures { AllWork (formats_of F.Formats) (lock_of store.entry.now) (plan_of store.entry.now) phase.entry.now workers.entry.now workers.exit.now }
     { take_beside(rt, alloc, gate, store, phase, workers) };
     thread::join_mut(rt, &mut flush, &mut take);
@@ -173,8 +179,10 @@ fn take_in_turn<G: Gate, D: Disk, F: Formats + Drop, P: Patterns + Drop, R: Wait
     phase: &[Steps],
     workers: &mut [Worker],
 )
-    requires ready { (i : ℕ) (d : Worker) → i < length workers.old → IsReady (lock_of store.now) (plan_of store.now) (slice_index_or workers.old i d).session.handle (slice_index_or workers.old i d).session.workspace }
-    requires rooms { (i : ℕ) (d : Worker) → i < length workers.old → IsRoom (length (steps_in phase.now (slice_index_or workers.old i d).session.number)) (slice_index_or workers.old i d).told }
+    requires ready { (i : ℕ) (d : Worker) → i < length workers.old
+        → IsReady (lock_of store.now) (plan_of store.now) (slice_index_or workers.old i d).session.handle (slice_index_or workers.old i d).session.workspace }
+    requires rooms { (i : ℕ) (d : Worker) → i < length workers.old
+        → IsRoom (length (steps_in phase.now (slice_index_or workers.old i d).session.number)) (slice_index_or workers.old i d).told }
     ensures { (i : ℕ) (d : Worker) → i < length workers.old
         → Works (formats_of F.Formats) (lock_of store.now) (plan_of store.now) (steps_in phase.now (slice_index_or workers.old i d).session.number) (slice_index_or workers.old i d) (slice_index_or workers.new i d) }
 {
@@ -198,8 +206,10 @@ fn take_beside<
     phase: &[Steps],
     workers: &mut [Worker],
 )
-    requires ready { (i : ℕ) (d : Worker) → i < length workers.old → IsReady (lock_of store.now) (plan_of store.now) (slice_index_or workers.old i d).session.handle (slice_index_or workers.old i d).session.workspace }
-    requires rooms { (i : ℕ) (d : Worker) → i < length workers.old → IsRoom (length (steps_in phase.now (slice_index_or workers.old i d).session.number)) (slice_index_or workers.old i d).told }
+    requires ready { (i : ℕ) (d : Worker) → i < length workers.old
+        → IsReady (lock_of store.now) (plan_of store.now) (slice_index_or workers.old i d).session.handle (slice_index_or workers.old i d).session.workspace }
+    requires rooms { (i : ℕ) (d : Worker) → i < length workers.old
+        → IsRoom (length (steps_in phase.now (slice_index_or workers.old i d).session.number)) (slice_index_or workers.old i d).told }
     ensures { (i : ℕ) (d : Worker) → i < length workers.old
         → Works (formats_of F.Formats) (lock_of store.now) (plan_of store.now) (steps_in phase.now (slice_index_or workers.old i d).session.number) (slice_index_or workers.old i d) (slice_index_or workers.new i d) }
 {

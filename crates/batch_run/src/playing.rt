@@ -43,7 +43,8 @@ pub fn play_on<
     R: Threads + Wait + Sync,
 >(rt: &R, alloc: Global, gate: &G, plan: Plan<F>, core: Core<D, P>, script: &Script) -> Played<D, P>
     requires script { IsPlayable script.now }
-    requires world { (procs : ℕ → KeyMap) → StandsIn (formats_of F.Formats) (store_of (files_of plan) procs) core (λ r. no_record) (λ p. None) first_world }
+    requires world { (procs : ℕ → KeyMap)
+        → StandsIn (formats_of F.Formats) (store_of (files_of plan) procs) core (λ r. no_record) (λ p. None) first_world }
     ensures { IsPlayed (formats_of F.Formats) D.Disk P.refusals (files_of plan) script.now core result }
 {
     match places_of(alloc, script) {
@@ -69,7 +70,8 @@ fn play_shared<
     places: Places,
 ) -> Played<D, P>
     requires script { IsPlayable script.now }
-    requires world { (procs : ℕ → KeyMap) → StandsIn (formats_of F.Formats) (store_of (files_of plan) procs) core (λ r. no_record) (λ p. None) first_world }
+    requires world { (procs : ℕ → KeyMap)
+        → StandsIn (formats_of F.Formats) (store_of (files_of plan) procs) core (λ r. no_record) (λ p. None) first_world }
     requires places { HasPlaces script.now places }
     ensures { IsPlayed (formats_of F.Formats) D.Disk P.refusals (files_of plan) script.now core result }
 {
@@ -172,8 +174,10 @@ fn play_with_handles<
 fn close_unplayed<D: Disk, F: Formats + Drop, P: Patterns + Drop>(
     unshared: NotShared<D, F, P>,
 ) -> Played<D, P>
-    requires { (procs : ℕ → KeyMap) → StandsIn (formats_of F.Formats) (store_of (files_of unshared.plan) procs) unshared.core (λ r. no_record) (λ p. None) first_world }
-    ensures { (script : Script) → IsPlayed (formats_of F.Formats) D.Disk P.refusals (files_of unshared.plan) script unshared.core result }
+    requires { (procs : ℕ → KeyMap)
+        → StandsIn (formats_of F.Formats) (store_of (files_of unshared.plan) procs) unshared.core (λ r. no_record) (λ p. None) first_world }
+    ensures { (script : Script)
+        → IsPlayed (formats_of F.Formats) D.Disk P.refusals (files_of unshared.plan) script unshared.core result }
 {
     let NotShared { core, .. } = unshared;
     Played {

@@ -43,7 +43,8 @@ impl Session {
         requires room { length steps.now ≤ vec_capacity replies.old }
         ensures goes { GoesOn (formats_of F.Formats) (lock_of store.now) (plan_of store.now) steps.now replies.new.items self.old.handle self.old.workspace self.new.handle self.new.workspace }
         ensures number { self.new.number ≡ self.old.number }
-        ensures passed { self.old.passed + length steps.now < 2 ^ 32 → self.new.passed ≡ self.old.passed + length steps.now }
+        ensures passed { self.old.passed + length steps.now < 2 ^ 32
+            → self.new.passed ≡ self.old.passed + length steps.now }
     {
         for step in steps {
             self.passed = self.passed.saturating_add(1);

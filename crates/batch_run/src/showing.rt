@@ -64,7 +64,9 @@ fn show_phase(
 /// The replies in the room of a session, which are taken out; a number that no session has finds none.
 fn take_room(alloc: Global, numbers: &[u32], rooms: &mut Vec<Vec<Reply>>, number: u32) -> Vec<Reply>
     ensures taken { result.items ≡ told_at numbers.now (over told_in rooms.old.items) number }
-    ensures others { (other : ℕ) → other ≢ number → told_at numbers.now (over told_in rooms.new.items) other ≡ told_at numbers.now (over told_in rooms.old.items) other }
+    ensures others { (other : ℕ) → other ≢ number
+        → told_at numbers.now (over told_in rooms.new.items) other
+        ≡ told_at numbers.now (over told_in rooms.old.items) other }
 {
     let place = place_of(numbers, number);
     if place < numbers.len() && place < rooms.len() {

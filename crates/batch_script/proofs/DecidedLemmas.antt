@@ -19,7 +19,8 @@ use Rattle.batch_script.proofs.LineLemmas.{follow-lacks, item-adds, nothing-adds
 
 -- some word and what stands behind it are the first of a line, or none are
 abbrev First : List ℕ → Type 0
-First line = ((word : List ℕ) × (rest : List ℕ) × IsFirstWord line word rest × (length rest < length line)) ⊎ LacksWord line
+First line =
+    ((word : List ℕ) × (rest : List ℕ) × IsFirstWord line word rest × (length rest < length line)) ⊎ LacksWord line
 
 -- a run of bytes without blanks ends somewhere
 pub record EndsAt (bytes : List ℕ) (end : ℕ) : Type 0 where
@@ -37,7 +38,8 @@ run-told (b ∷ bytes) =
           (suc more.0, record { within = omega (arith, more.1.within); run = ap (λ t. not t && list_all (λ c. not (is_blank c)) (take more.0 bytes)) other ∙ more.1.run; apart = more.1.apart })
     ]
 
-bare-told : (b : ℕ) (bytes : List ℕ) → is_blank b ≡ false → b ≢ 34 → behind_blanks (b ∷ bytes) ≡ b ∷ bytes → First (b ∷ bytes)
+bare-told : (b : ℕ) (bytes : List ℕ) → is_blank b ≡ false → b ≢ 34 → behind_blanks (b ∷ bytes) ≡ b ∷ bytes
+    → First (b ∷ bytes)
 bare-told b bytes other no_quote front =
     let line = b ∷ bytes in
     let ends = run-told line in
@@ -60,9 +62,11 @@ stops-by : (fuel : ℕ) (line rest text : List ℕ) → length rest < fuel → I
 stops-by zero line rest text less h = absurd (omega (arith, less))
 stops-by (suc fuel) line rest text less h = by (stops-by fuel line) (written_at rest) refl
   where
-    by : ((more next : List ℕ) → length more < fuel → IsInQuotes line more next → Stops line) → (found : Option (ℕ × List ℕ)) → written_at rest ≡ found → Stops line
+    by : ((more next : List ℕ) → length more < fuel → IsInQuotes line more next → Stops line)
+        → (found : Option (ℕ × List ℕ)) → written_at rest ≡ found → Stops line
     by go None e = record { rest = rest; text = text; inside = h; none = e }
-    by go (Some (b, more)) e = go more (text ++ b ∷ []) (omega (arith, less, written-shorter rest more b e)) (quoted-more line rest text more b h e)
+    by go (Some (b, more)) e =
+        go more (text ++ b ∷ []) (omega (arith, less, written-shorter rest more b e)) (quoted-more line rest text more b h e)
 
 quoted-told : (bytes : List ℕ) → First (34 ∷ bytes)
 quoted-told bytes =
@@ -92,16 +96,19 @@ words-by : (fuel : ℕ) (line : List ℕ) → length line < fuel → IsFound (Ha
 words-by zero line less = absurd (omega (arith, less))
 words-by (suc fuel) line less = by (words-by fuel) (behind_blanks line) refl
   where
-    lacks : (rest : List ℕ) → behind_blanks line ≡ rest → rest ≢ [] → LacksWord line → (words : List (List ℕ)) → HasWords line words → ⊥
+    lacks : (rest : List ℕ) → behind_blanks line ≡ rest → rest ≢ [] → LacksWord line → (words : List (List ℕ))
+        → HasWords line words → ⊥
     lacks rest e some none [] has = some (sym e ∙ blank-behind line has)
     lacks rest e some none (word ∷ words) has = none word has.0 has.1
 
-    others : (word rest : List ℕ) → IsFirstWord line word rest → ((words : List (List ℕ)) → HasWords rest words → ⊥) → (words : List (List ℕ)) → HasWords line words → ⊥
+    others : (word rest : List ℕ) → IsFirstWord line word rest → ((words : List (List ℕ)) → HasWords rest words → ⊥)
+        → (words : List (List ℕ)) → HasWords line words → ⊥
     others word rest first none [] has = blank-lacks line (blank-behind line has) word rest first
     others word rest first none (other ∷ words) has =
         none words (subst (λ t. HasWords t words) (first-once line other word has.0 rest has.1 first).1 has.2)
 
-    by : ((rest : List ℕ) → length rest < fuel → IsFound (HasWords rest)) → (rest : List ℕ) → behind_blanks line ≡ rest → IsFound (HasWords line)
+    by : ((rest : List ℕ) → length rest < fuel → IsFound (HasWords rest)) → (rest : List ℕ) → behind_blanks line ≡ rest
+        → IsFound (HasWords line)
     by go [] e = inl ([], blank-from line e)
     by go (b ∷ bytes) e =
         let front : behind_blanks (b ∷ bytes) ≡ b ∷ bytes = ap behind_blanks (sym e) ∙ behind-again line ∙ e in
@@ -133,7 +140,8 @@ Adds-told before line =
       | inr bad ↦ inr (λ after adds. bad adds.utf8)
     ]
   where
-    by_said : IsUtf8 line → is_nothing (behind_blanks (without_return line)) ≡ false → (words : List (List ℕ)) → HasWords (behind_blanks (without_return line)) words → (found : Option Item) → said words ≡ found
+    by_said : IsUtf8 line → is_nothing (behind_blanks (without_return line)) ≡ false → (words : List (List ℕ))
+        → HasWords (behind_blanks (without_return line)) words → (found : Option Item) → said words ≡ found
         → ((after : List Item) × Adds before line after) ⊎ ((after : List Item) → Adds before line after → ⊥)
     by_said utf8 something words has None e = inr (λ after. said-lacks before after line words something has e)
     by_said utf8 something words has (Some item) e =

@@ -31,7 +31,8 @@ hex_value-hex_digit n small =
       | inr high ↦ ap hex_value (hex_digit-high n high) ∙ hex_value-high n high small ∙ ap (λ (m : ℕ). Some m) (omega arith)
     ]
 
-byte_of_values : (first second high low : ℕ) → hex_value first ≡ Some high → hex_value second ≡ Some low → 16 * high + low < 128 → byte_of_digits first second ≡ Some (16 * high + low)
+byte_of_values : (first second high low : ℕ) → hex_value first ≡ Some high → hex_value second ≡ Some low
+    → 16 * high + low < 128 → byte_of_digits first second ≡ Some (16 * high + low)
 byte_of_values first second high low is_high is_low small =
     rw is_high (rw is_low (cond-true (nat_lt (16 * high + low) 128) (Some (16 * high + low)) None (lt-ltb (16 * high + low) 128 small)))
 
@@ -40,13 +41,18 @@ byte_of_hexadecimal b small =
     let high : b / 16 < 16 = omega arith in
     let low : b % 16 < 16 = omega arith in
     let whole : 16 * (b / 16) + b % 16 ≡ b = omega arith in
-    byte_of_values (hex_digit (b / 16)) (hex_digit (b % 16)) (b / 16) (b % 16) (hex_value-hex_digit (b / 16) high) (hex_value-hex_digit (b % 16) low) (omega (arith, whole)) ∙ ap (λ (m : ℕ). Some m) whole
+    byte_of_values (hex_digit (b / 16)) (hex_digit (b % 16)) (b / 16) (b % 16) (hex_value-hex_digit (b / 16) high) (hex_value-hex_digit (b % 16) low) (omega (arith, whole))
+    ∙ ap (λ (m : ℕ). Some m) whole
 
-in_hexadecimal : (b : ℕ) → b ≢ 92 → b ≢ 34 → b ≢ 10 → b ≢ 13 → b ≢ 9 → (b < 32) ⊎ (b ≡ 127) → quoted_byte b ≡ 92 ∷ 120 ∷ hex_digit (b / 16) ∷ hex_digit (b % 16) ∷ []
+in_hexadecimal : (b : ℕ) → b ≢ 92 → b ≢ 34 → b ≢ 10 → b ≢ 13 → b ≢ 9 → (b < 32) ⊎ (b ≡ 127)
+    → quoted_byte b ≡ 92 ∷ 120 ∷ hex_digit (b / 16) ∷ hex_digit (b % 16) ∷ []
 in_hexadecimal b backslash quote feed return tab (inl small) = grind (arith, nat_tests)
-in_hexadecimal b backslash quote feed return tab (inr delete) = subst (λ b. quoted_byte b ≡ 92 ∷ 120 ∷ hex_digit (b / 16) ∷ hex_digit (b % 16) ∷ []) (sym delete) refl
+in_hexadecimal b backslash quote feed return tab (inr delete) =
+    subst (λ b. quoted_byte b ≡ 92 ∷ 120 ∷ hex_digit (b / 16) ∷ hex_digit (b % 16) ∷ []) (sym delete) refl
 
-written_at-hexadecimal : (b : ℕ) (more : List ℕ) → b < 128 → quoted_byte b ≡ 92 ∷ 120 ∷ hex_digit (b / 16) ∷ hex_digit (b % 16) ∷ [] → written_at (quoted_byte b ++ more) ≡ Some (b, more)
+written_at-hexadecimal : (b : ℕ) (more : List ℕ) → b < 128
+    → quoted_byte b ≡ 92 ∷ 120 ∷ hex_digit (b / 16) ∷ hex_digit (b % 16) ∷ []
+    → written_at (quoted_byte b ++ more) ≡ Some (b, more)
 written_at-hexadecimal b more small is =
     ap (λ text. written_at (text ++ more)) is ∙ ap (option_map (λ byte. (byte, more))) (byte_of_hexadecimal b small)
 
@@ -84,7 +90,8 @@ written_at-quoted b more =
       ]
     ]
 
-pub written_at-written : (first : List ℕ) (b : ℕ) (more : List ℕ) → IsWritten first b → written_at (first ++ more) ≡ Some (b, more)
+pub written_at-written : (first : List ℕ) (b : ℕ) (more : List ℕ) → IsWritten first b
+    → written_at (first ++ more) ≡ Some (b, more)
 written_at-written first b more (inl quoted) = ap (λ text. written_at (text ++ more)) quoted ∙ written_at-quoted b more
 written_at-written first b more (inr h) =
     ap (λ text. written_at (text ++ more)) h.text_is
@@ -98,7 +105,8 @@ pub record IsAhead (bytes : List ℕ) (b : ℕ) (more : List ℕ) : Type 0 where
   pub is : bytes ≡ first ++ more
   pub written : IsWritten first b
 
-digits-found : (first second b : ℕ) → byte_of_digits first second ≡ Some b → IsHexadecimal (92 ∷ 120 ∷ first ∷ second ∷ []) b
+digits-found : (first second b : ℕ) → byte_of_digits first second ≡ Some b
+    → IsHexadecimal (92 ∷ 120 ∷ first ∷ second ∷ []) b
 digits-found first second b e =
     option_and_then_some _ (hex_value first) b e (λ high is_high e1.
     option_and_then_some _ (hex_value second) b e1 (λ low is_low e2.
@@ -116,7 +124,8 @@ digits-found first second b e =
       ascii = omega (arith, small, parts.1);
     }))
 
-hexadecimal-found : (bytes : List ℕ) (b : ℕ) (more : List ℕ) → hexadecimal_at bytes ≡ Some (b, more) → IsAhead (92 ∷ 120 ∷ bytes) b more
+hexadecimal-found : (bytes : List ℕ) (b : ℕ) (more : List ℕ) → hexadecimal_at bytes ≡ Some (b, more)
+    → IsAhead (92 ∷ 120 ∷ bytes) b more
 hexadecimal-found [] b more e = absurd (none-some _ e)
 hexadecimal-found (first ∷ []) b more e = absurd (none-some _ e)
 hexadecimal-found (first ∷ second ∷ bytes) b more e =
@@ -130,7 +139,8 @@ hexadecimal-found (first ∷ second ∷ bytes) b more e =
     }
 
 -- a letter that is known stands behind a backslash as the byte is quoted
-known-found : (letter known b byte : ℕ) → letter ≡ known → short_escape known ≡ Some byte → 92 ∷ known ∷ [] ≡ quoted_byte byte → short_escape letter ≡ Some b → 92 ∷ letter ∷ [] ≡ quoted_byte b
+known-found : (letter known b byte : ℕ) → letter ≡ known → short_escape known ≡ Some byte
+    → 92 ∷ known ∷ [] ≡ quoted_byte byte → short_escape letter ≡ Some b → 92 ∷ letter ∷ [] ≡ quoted_byte b
 known-found letter known b byte is stands quotes e =
     let same : byte ≡ b = same_Some byte b (sym stands ∙ ap short_escape (sym is) ∙ e) in
     ap (λ (l : ℕ). 92 ∷ l ∷ []) is ∙ quotes ∙ ap quoted_byte same
@@ -154,7 +164,8 @@ short_escape-found letter b e =
       ]
     ]
 
-escaped-found : (bytes : List ℕ) (b : ℕ) (more : List ℕ) → escaped_at bytes ≡ Some (b, more) → IsAhead (92 ∷ bytes) b more
+escaped-found : (bytes : List ℕ) (b : ℕ) (more : List ℕ) → escaped_at bytes ≡ Some (b, more)
+    → IsAhead (92 ∷ bytes) b more
 escaped-found [] b more e = absurd (none-some _ e)
 escaped-found (letter ∷ bytes) b more e =
     elim (cases_eq letter 120) [
@@ -181,7 +192,8 @@ plain-bare b backslash plain = record {
   no_quote = λ e. let e' = e in grind (arith, nat_tests);
 }
 
-pub written_at-found : (bytes : List ℕ) (b : ℕ) (more : List ℕ) → written_at bytes ≡ Some (b, more) → IsAhead bytes b more
+pub written_at-found : (bytes : List ℕ) (b : ℕ) (more : List ℕ) → written_at bytes ≡ Some (b, more)
+    → IsAhead bytes b more
 written_at-found [] b more e = absurd (none-some _ e)
 written_at-found (a ∷ bytes) b more e =
     elim (cases_eq a 92) [
@@ -201,14 +213,17 @@ written_at-found (a ∷ bytes) b more e =
 
 -- nothing is written by no byte
 pub written-some : (first : List ℕ) (b : ℕ) → IsWritten first b → 0 < length first
-written-some [] b h = let none : ◌≡◌ {A = Option (ℕ × List ℕ)} None (Some (b, [])) = written_at-written [] b [] h in absurd (none-some _ none)
+written-some [] b h =
+    let none : ◌≡◌ {A = Option (ℕ × List ℕ)} None (Some (b, [])) = written_at-written [] b [] h in absurd (none-some _ none)
 written-some (a ∷ first) b h = omega arith
 
 -- ---- one text
 
 -- bytes that stand for a text, with what stands for one in quotes before its last quote: they go on as far as it does
-pub stands-once : (text word inside other rest behind : List ℕ) → StandsFor inside text → StandsFor other word → inside ++ rest ≡ other ++ 34 ∷ behind → written_at rest ≡ None → (text ≡ word) × (rest ≡ 34 ∷ behind)
-stands-once [] [] inside other rest behind p q e none = (refl, sym (ap (λ i. i ++ rest) p) ∙ e ∙ ap (λ i. i ++ 34 ∷ behind) q)
+pub stands-once : (text word inside other rest behind : List ℕ) → StandsFor inside text → StandsFor other word
+    → inside ++ rest ≡ other ++ 34 ∷ behind → written_at rest ≡ None → (text ≡ word) × (rest ≡ 34 ∷ behind)
+stands-once [] [] inside other rest behind p q e none =
+    (refl, sym (ap (λ i. i ++ rest) p) ∙ e ∙ ap (λ i. i ++ 34 ∷ behind) q)
 stands-once [] (b ∷ word) inside other rest behind p q e none =
     let is : rest ≡ q.0 ++ (q.1 ++ 34 ∷ behind) = sym (ap (λ i. i ++ rest) p) ∙ e ∙ ap (λ i. i ++ 34 ∷ behind) q.2 ∙ append_assoc q.0 q.1 (34 ∷ behind) in
     absurd (none-some _ (sym none ∙ ap written_at is ∙ written_at-written q.0 b (q.1 ++ 34 ∷ behind) q.3))
@@ -227,7 +242,8 @@ stands-once (b ∷ text) (c ∷ word) inside other rest behind p q e none =
     (ap (λ (x : ℕ). x ∷ text) byte ∙ ap (λ t. c ∷ t) more.0, more.1)
 
 -- one byte more
-pub stands-more : (inside text first : List ℕ) (b : ℕ) → StandsFor inside text → IsWritten first b → StandsFor (inside ++ first) (text ++ b ∷ [])
+pub stands-more : (inside text first : List ℕ) (b : ℕ) → StandsFor inside text → IsWritten first b
+    → StandsFor (inside ++ first) (text ++ b ∷ [])
 stands-more inside [] first b p written = (first, [], ap (λ i. i ++ first) p ∙ sym (append_none first), written, refl)
   where
     append_none : (xs : List ℕ) → xs ++ [] ≡ xs

@@ -28,11 +28,13 @@ nothing-means : (line : List ℕ) → MeansNothing line → is_nothing (behind_b
 nothing-means line (inl blank) = ap is_nothing (blank-behind line blank)
 nothing-means line (inr h) = ap is_nothing (comment-behind line h)
 
-pub nothing-adds : (items : List Item) (line : List ℕ) → IsUtf8 line → is_nothing (behind_blanks (without_return line)) ≡ true → Adds items line items
+pub nothing-adds : (items : List Item) (line : List ℕ) → IsUtf8 line
+    → is_nothing (behind_blanks (without_return line)) ≡ true → Adds items line items
 nothing-adds items line utf8 is = record { utf8 = utf8; means = inl (nothing-by (without_return line) _ refl is, refl) }
 
 -- the words of a comment say nothing
-comment-says : (bytes word rest comment : List ℕ) (words : List (List ℕ)) (item : Item) → IsSpelled bytes word → bytes ++ rest ≡ 35 ∷ comment → said (word ∷ words) ≡ Some item → ⊥
+comment-says : (bytes word rest comment : List ℕ) (words : List (List ℕ)) (item : Item) → IsSpelled bytes word
+    → bytes ++ rest ≡ 35 ∷ comment → said (word ∷ words) ≡ Some item → ⊥
 comment-says [] word rest comment words item (inl bare) e says = true≢false (sym bare.0)
 comment-says (b ∷ bytes) word rest comment words item (inl bare) e says =
     let head : b ≡ 35 = cc in
@@ -46,9 +48,11 @@ comment-says (b ∷ bytes) word rest comment words item (inr quoted) e says =
     let same : ◌≡◌ {A = ℕ} 35 34 = sym head ∙ other in
     true≢false (ap (λ (n : ℕ). n == 35) same)
 
-nothing-says : (line : List ℕ) (words : List (List ℕ)) (item : Item) → MeansNothing line → HasWords line words → said words ≡ Some item → ⊥
+nothing-says : (line : List ℕ) (words : List (List ℕ)) (item : Item) → MeansNothing line → HasWords line words
+    → said words ≡ Some item → ⊥
 nothing-says line [] item nothing has says = none-some item says
-nothing-says line (word ∷ words) item (inl blank) has says = let none : [] ≡ word ∷ words = words-once [] (word ∷ words) line blank has in absurd cc
+nothing-says line (word ∷ words) item (inl blank) has says =
+    let none : [] ≡ word ∷ words = words-once [] (word ∷ words) line blank has in absurd cc
 nothing-says line (word ∷ words) item (inr h) has says =
     let first = has.1 in
     comment-says first.bytes word has.0 h.comment words item first.spelled (sym (first-behind line word has.0 first) ∙ comment-behind line h) says
@@ -56,18 +60,21 @@ nothing-says line (word ∷ words) item (inr h) has says =
 -- ---- lines that say something
 
 -- a line that adds something, and has words, adds what they say
-pub says-of : (items after : List Item) (line : List ℕ) (words : List (List ℕ)) → Adds items line after → is_nothing (behind_blanks (without_return line)) ≡ false → HasWords (behind_blanks (without_return line)) words
+pub says-of : (items after : List Item) (line : List ℕ) (words : List (List ℕ)) → Adds items line after
+    → is_nothing (behind_blanks (without_return line)) ≡ false → HasWords (behind_blanks (without_return line)) words
     → (item : Item) × (said words ≡ Some item) × (may_follow items item ≡ true)
 says-of items after line words adds something has = by adds.means
   where
-    by : Means items (without_return line) after → (item : Item) × (said words ≡ Some item) × (may_follow items item ≡ true)
+    by : Means items (without_return line) after
+        → (item : Item) × (said words ≡ Some item) × (may_follow items item ≡ true)
     by (inl h) = absurd (true≢false (sym (nothing-means (without_return line) h.0) ∙ something))
     by (inr h) =
         let once : h.1.words ≡ words = words-once h.1.words words (without_return line) h.1.has (words-before (without_return line) words has) in
         (h.0, ap said (sym once) ∙ h.1.is_said, h.1.follows)
 
 -- a line that has no words adds nothing
-pub words-lack : (items after : List Item) (line : List ℕ) → is_nothing (behind_blanks (without_return line)) ≡ false → ((words : List (List ℕ)) → HasWords (behind_blanks (without_return line)) words → ⊥) → Adds items line after → ⊥
+pub words-lack : (items after : List Item) (line : List ℕ) → is_nothing (behind_blanks (without_return line)) ≡ false
+    → ((words : List (List ℕ)) → HasWords (behind_blanks (without_return line)) words → ⊥) → Adds items line after → ⊥
 words-lack items after line something none adds = by adds.means
   where
     by : Means items (without_return line) after → ⊥
@@ -75,19 +82,25 @@ words-lack items after line something none adds = by adds.means
     by (inr h) = none h.1.words (words-ahead (without_return line) h.1.words h.1.has)
 
 -- words that say nothing add nothing
-pub said-lacks : (items after : List Item) (line : List ℕ) (words : List (List ℕ)) → is_nothing (behind_blanks (without_return line)) ≡ false → HasWords (behind_blanks (without_return line)) words → said words ≡ None → Adds items line after → ⊥
+pub said-lacks : (items after : List Item) (line : List ℕ) (words : List (List ℕ))
+    → is_nothing (behind_blanks (without_return line)) ≡ false → HasWords (behind_blanks (without_return line)) words
+    → said words ≡ None → Adds items line after → ⊥
 said-lacks items after line words something has none adds =
     let says = says-of items after line words adds something has in
     none-some says.0 (sym none ∙ says.1)
 
 -- what may not follow adds nothing
-pub follow-lacks : (items after : List Item) (line : List ℕ) (words : List (List ℕ)) (item : Item) → is_nothing (behind_blanks (without_return line)) ≡ false → HasWords (behind_blanks (without_return line)) words → said words ≡ Some item → may_follow items item ≡ false → Adds items line after → ⊥
+pub follow-lacks : (items after : List Item) (line : List ℕ) (words : List (List ℕ)) (item : Item)
+    → is_nothing (behind_blanks (without_return line)) ≡ false → HasWords (behind_blanks (without_return line)) words
+    → said words ≡ Some item → may_follow items item ≡ false → Adds items line after → ⊥
 follow-lacks items after line words item something has said_is fails adds =
     let says = says-of items after line words adds something has in
     let same : item ≡ says.0 = same_Some item says.0 (sym said_is ∙ says.1) in
     true≢false (sym says.2 ∙ ap (may_follow items) (sym same) ∙ fails)
 
-pub item-adds : (items : List Item) (line : List ℕ) (words : List (List ℕ)) (item : Item) → IsUtf8 line → HasWords (behind_blanks (without_return line)) words → said words ≡ Some item → may_follow items item ≡ true → Adds items line (items ++ item ∷ [])
+pub item-adds : (items : List Item) (line : List ℕ) (words : List (List ℕ)) (item : Item) → IsUtf8 line
+    → HasWords (behind_blanks (without_return line)) words → said words ≡ Some item → may_follow items item ≡ true
+    → Adds items line (items ++ item ∷ [])
 item-adds items line words item utf8 has said_is follows = record {
   utf8 = utf8;
   means = inr (item, record { words = words; has = words-before (without_return line) words has; is_said = said_is; follows = follows }, refl);

@@ -40,18 +40,21 @@ none-in : (found : Option Item) (words : List (List ℕ)) → SaysInProc found �
 none-in found [] says = says
 none-in found (word ∷ words) says = tt
 
-one-in : (by : List ℕ → Option Item) (words : List (List ℕ)) → ((one : List ℕ) → SaysInProc (by one)) → SaysInProc (on_one by words)
+one-in : (by : List ℕ → Option Item) (words : List (List ℕ)) → ((one : List ℕ) → SaysInProc (by one))
+    → SaysInProc (on_one by words)
 one-in by [] says = tt
 one-in by (one ∷ []) says = says one
 one-in by (one ∷ two ∷ words) says = tt
 
-two-in : (by : List ℕ → List ℕ → Option Item) (words : List (List ℕ)) → ((one two : List ℕ) → SaysInProc (by one two)) → SaysInProc (on_two by words)
+two-in : (by : List ℕ → List ℕ → Option Item) (words : List (List ℕ)) → ((one two : List ℕ) → SaysInProc (by one two))
+    → SaysInProc (on_two by words)
 two-in by [] says = tt
 two-in by (one ∷ []) says = tt
 two-in by (one ∷ two ∷ []) says = says one two
 two-in by (one ∷ two ∷ three ∷ words) says = tt
 
-three-in : (by : List ℕ → List ℕ → List ℕ → Option Item) (words : List (List ℕ)) → ((one two three : List ℕ) → SaysInProc (by one two three)) → SaysInProc (on_three by words)
+three-in : (by : List ℕ → List ℕ → List ℕ → Option Item) (words : List (List ℕ))
+    → ((one two three : List ℕ) → SaysInProc (by one two three)) → SaysInProc (on_three by words)
 three-in by [] says = tt
 three-in by (one ∷ []) says = tt
 three-in by (one ∷ two ∷ []) says = tt
@@ -59,17 +62,20 @@ three-in by (one ∷ two ∷ three ∷ []) says = says one two three
 three-in by (one ∷ two ∷ three ∷ four ∷ words) says = tt
 
 -- what stands for a value says so for each value
-map-in : {A : Type 0} (item : A → Item) (found : Option A) → ((it : A) → GivesInProc (item it)) → SaysInProc (option_map item found)
+map-in : {A : Type 0} (item : A → Item) (found : Option A) → ((it : A) → GivesInProc (item it))
+    → SaysInProc (option_map item found)
 map-in item None says = tt
 map-in item (Some it) says = says it
 
 -- what one of two things says
-either : (b : Bool) (one other : Option Item) → SaysInProc one → SaysInProc other → SaysInProc (if b then one else other)
+either : (b : Bool) (one other : Option Item) → SaysInProc one → SaysInProc other
+    → SaysInProc (if b then one else other)
 either true one other says rest = says
 either false one other says rest = rest
 
 meta-in : (word meta value : List ℕ) → SaysInProc (on_meta word meta value)
-meta-in word meta value = either (is_meta meta) (on_name (λ name. MetaStep name meta value) word) None (map-in (λ name. Does (MetaStep name meta value)) (name_of word) (λ name. tt)) tt
+meta-in word meta value =
+    either (is_meta meta) (on_name (λ name. MetaStep name meta value) word) None (map-in (λ name. Does (MetaStep name meta value)) (name_of word) (λ name. tt)) tt
 
 merge-in : (word strategy tries : List ℕ) → SaysInProc (on_merge word strategy tries)
 merge-in word strategy tries = by (name_of word) (strategy_of strategy) (tries_of tries)
@@ -84,17 +90,20 @@ merge-in word strategy tries = by (name_of word) (strategy_of strategy) (tries_o
 watch-in : (word room : List ℕ) → SaysInProc (on_watch word room)
 watch-in word room = by (name_of word) (watch_room_of room)
   where
-    by : (parent : Option Name) (room : Option ℕ) → SaysInProc (option_and_then (λ parent. option_map (λ most. Does (Watch parent most)) room) parent)
+    by : (parent : Option Name) (room : Option ℕ)
+        → SaysInProc (option_and_then (λ parent. option_map (λ most. Does (Watch parent most)) room) parent)
     by None room = tt
     by (Some parent) None = tt
     by (Some parent) (Some room) = tt
 
 -- a name that is one in `proc`
-proc-name : (found : Option Name) → IfSome (option_and_then (λ (name : Name). if is_cascading name then Some (record { namespace = ProcNamespace; parts = name.parts }) else None) found) (λ (name : Name). name.namespace ≡ ProcNamespace)
+proc-name : (found : Option Name)
+    → IfSome (option_and_then (λ (name : Name). if is_cascading name then Some (record { namespace = ProcNamespace; parts = name.parts }) else None) found) (λ (name : Name). name.namespace ≡ ProcNamespace)
 proc-name None = tt
 proc-name (Some name) = by (is_cascading name)
   where
-    by : (b : Bool) → IfSome (if b then Some (record { namespace = ProcNamespace; parts = name.parts }) else None) (λ (it : Name). it.namespace ≡ ProcNamespace)
+    by : (b : Bool)
+        → IfSome (if b then Some (record { namespace = ProcNamespace; parts = name.parts }) else None) (λ (it : Name). it.namespace ≡ ProcNamespace)
     by true = refl
     by false = tt
 
@@ -114,16 +123,20 @@ name-row : (step : Name → Step) (words : List (List ℕ)) → SaysInProc (on_o
 name-row step words = one-in (on_name step) words (λ one. map-in (λ name. Does (step name)) (name_of one) (λ name. tt))
 
 session-row : (words : List (List ℕ)) → SaysInProc (on_one (λ number. option_map Session (session_of number)) words)
-session-row words = one-in (λ number. option_map Session (session_of number)) words (λ one. map-in Session (session_of one) (λ number. tt))
+session-row words =
+    one-in (λ number. option_map Session (session_of number)) words (λ one. map-in Session (session_of one) (λ number. tt))
 
 put-row : (words : List (List ℕ)) → SaysInProc (on_two (λ word value. on_name (λ name. Put name value) word) words)
-put-row words = two-in (λ word value. on_name (λ name. Put name value) word) words (λ one two. map-in (λ name. Does (Put name two)) (name_of one) (λ name. tt))
+put-row words =
+    two-in (λ word value. on_name (λ name. Put name value) word) words (λ one two. map-in (λ name. Does (Put name two)) (name_of one) (λ name. tt))
 
 undo-row : (words : List (List ℕ)) → SaysInProc (on_one on_undo words)
-undo-row words = one-in on_undo words (λ one. map-in (λ number. Does (Undo number)) (commit_number_of one) (λ number. tt))
+undo-row words =
+    one-in on_undo words (λ one. map-in (λ number. Does (Undo number)) (commit_number_of one) (λ number. tt))
 
 cut-row : (words : List (List ℕ)) → SaysInProc (on_one (on_plain_name Cut) words)
-cut-row words = one-in (on_plain_name Cut) words (λ one. map-in (λ name. Does (Cut name)) (plain_name_of one) (λ name. tt))
+cut-row words =
+    one-in (on_plain_name Cut) words (λ one. map-in (λ name. Does (Cut name)) (plain_name_of one) (λ name. tt))
 
 abbrev IsRowInProc : Row → Type 0
 IsRowInProc row = (words : List (List ℕ)) → SaysInProc (row.says words)
@@ -135,9 +148,11 @@ rows-in =
     let steps : AllByRecursion IsRowInProc (drop 3 rows) = (name-row Get, (put-row, (λ words. three-in on_meta words meta-in, (name-row Del, keys)))) in
     (λ words. three-in on_proc words proc-in, (session-row, (λ words. none-in (Some Phase) words tt, steps)))
 
-by-rows : (all : List Row) (word : List ℕ) (words : List (List ℕ)) → AllByRecursion IsRowInProc all → SaysInProc (said_by all word words)
+by-rows : (all : List Row) (word : List ℕ) (words : List (List ℕ)) → AllByRecursion IsRowInProc all
+    → SaysInProc (said_by all word words)
 by-rows [] word words each = tt
-by-rows (row ∷ others) word words each = either (is_text word row.word) (row.says words) (said_by others word words) (each.0 words) (by-rows others word words each.1)
+by-rows (row ∷ others) word words each =
+    either (is_text word row.word) (row.says words) (said_by others word words) (each.0 words) (by-rows others word words each.1)
 
 said-in : (words : List (List ℕ)) → SaysInProc (said words)
 said-in [] = tt
@@ -145,7 +160,8 @@ said-in (word ∷ words) = by-rows rows word words rows-in
 
 -- ---- all lines
 
-adds-in : (before after : List Item) (line : List ℕ) → AllByRecursion GivesInProc before → Adds before line after → AllByRecursion GivesInProc after
+adds-in : (before after : List Item) (line : List ℕ) → AllByRecursion GivesInProc before → Adds before line after
+    → AllByRecursion GivesInProc after
 adds-in before after line all adds = by adds.means
   where
     by : Means before (without_return line) after → AllByRecursion GivesInProc after
@@ -154,11 +170,14 @@ adds-in before after line all adds = by adds.means
         let one : GivesInProc says.0 = subst SaysInProc says.1.is_said (said-in says.1.words) in
         subst (AllByRecursion GivesInProc) (sym says.2) (all_append GivesInProc before (says.0 ∷ []) all (one, tt))
 
-pub leads-in : (lines : List (List ℕ)) (before after : List Item) → AllByRecursion GivesInProc before → Leads Adds before lines after → AllByRecursion GivesInProc after
+pub leads-in : (lines : List (List ℕ)) (before after : List Item) → AllByRecursion GivesInProc before
+    → Leads Adds before lines after → AllByRecursion GivesInProc after
 leads-in [] before after all leads = subst (AllByRecursion GivesInProc) leads all
-leads-in (line ∷ lines) before after all leads = leads-in lines leads.0 after (adds-in before leads.0 line all leads.1) leads.2
+leads-in (line ∷ lines) before after all leads =
+    leads-in lines leads.0 after (adds-in before leads.0 line all leads.1) leads.2
 
-pub lines-in : (items : List Item) → AllByRecursion GivesInProc items → AllByRecursion IsInProc (filter_map proc_of items)
+pub lines-in : (items : List Item) → AllByRecursion GivesInProc items
+    → AllByRecursion IsInProc (filter_map proc_of items)
 lines-in [] all = tt
 lines-in (Proc line ∷ items) all = (all.0, lines-in items all.1)
 lines-in (Session session ∷ items) all = lines-in items all.1

@@ -22,7 +22,8 @@ behind-blank b bytes e = cond-true (is_blank b) (behind_blanks bytes) (b ∷ byt
 behind-other : (b : ℕ) (bytes : List ℕ) → is_blank b ≡ false → behind_blanks (b ∷ bytes) ≡ b ∷ bytes
 behind-other b bytes e = cond-false (is_blank b) (behind_blanks bytes) (b ∷ bytes) e
 
-pub behind-gap : (gap bytes : List ℕ) → list_all is_blank gap ≡ true → behind_blanks (gap ++ bytes) ≡ behind_blanks bytes
+pub behind-gap : (gap bytes : List ℕ) → list_all is_blank gap ≡ true
+    → behind_blanks (gap ++ bytes) ≡ behind_blanks bytes
 behind-gap [] bytes e = refl
 behind-gap (b ∷ gap) bytes e =
     let parts = and_parts (is_blank b) (list_all is_blank gap) e in
@@ -106,23 +107,43 @@ spelled-some [] word rest (inr quoted) e = let e' = quoted.1 in absurd cc
 spelled-some (b ∷ bytes) word rest h e = absurd cc
 
 pub first-behind : (line word rest : List ℕ) (h : IsFirstWord line word rest) → behind_blanks line ≡ h.bytes ++ rest
-first-behind line word rest h = ap behind_blanks h.line_is ∙ behind-gap h.gap (h.bytes ++ rest) h.blank ∙ spelled-front h.bytes word rest h.spelled
+first-behind line word rest h =
+    ap behind_blanks h.line_is ∙ behind-gap h.gap (h.bytes ++ rest) h.blank ∙ spelled-front h.bytes word rest h.spelled
 
 pub first-ahead : (line word rest : List ℕ) → IsFirstWord line word rest → IsFirstWord (behind_blanks line) word rest
-first-ahead line word rest h = record { gap = []; bytes = h.bytes; line_is = first-behind line word rest h; blank = refl; spelled = h.spelled; utf8 = h.utf8; apart = h.apart }
+first-ahead line word rest h =
+    record {
+      gap = [];
+      bytes = h.bytes;
+      line_is = first-behind line word rest h;
+      blank = refl;
+      spelled = h.spelled;
+      utf8 = h.utf8;
+      apart = h.apart;
+    }
 
 pub first-before : (line word rest : List ℕ) → IsFirstWord (behind_blanks line) word rest → IsFirstWord line word rest
 first-before line word rest h =
     let cut = gap-of line in
     let ahead : behind_blanks line ≡ h.bytes ++ rest = sym (behind-again line) ∙ first-behind (behind_blanks line) word rest h in
-    record { gap = cut.0; bytes = h.bytes; line_is = cut.1.is ∙ ap (λ t. cut.0 ++ t) ahead; blank = cut.1.blank; spelled = h.spelled; utf8 = h.utf8; apart = h.apart }
+    record {
+      gap = cut.0;
+      bytes = h.bytes;
+      line_is = cut.1.is ∙ ap (λ t. cut.0 ++ t) ahead;
+      blank = cut.1.blank;
+      spelled = h.spelled;
+      utf8 = h.utf8;
+      apart = h.apart;
+    }
 
 -- a blank line has no first word
 pub blank-lacks : (line : List ℕ) → behind_blanks line ≡ [] → LacksWord line
 blank-lacks line e word rest h = spelled-some h.bytes word rest h.spelled (sym (first-behind line word rest h) ∙ e)
 
 -- a run of bytes without blanks ends at one place
-run-once : (xs ys rest behind : List ℕ) → list_all (λ c. not (is_blank c)) xs ≡ true → list_all (λ c. not (is_blank c)) ys ≡ true → EndsWord rest → EndsWord behind → xs ++ rest ≡ ys ++ behind → (xs ≡ ys) × (rest ≡ behind)
+run-once : (xs ys rest behind : List ℕ) → list_all (λ c. not (is_blank c)) xs ≡ true
+    → list_all (λ c. not (is_blank c)) ys ≡ true → EndsWord rest → EndsWord behind → xs ++ rest ≡ ys ++ behind
+    → (xs ≡ ys) × (rest ≡ behind)
 run-once [] [] rest behind p q e f same = (refl, same)
 run-once [] (y ∷ ys) rest behind p q e f same =
     absurd (not-true (is_blank y) (and_parts (not (is_blank y)) (list_all (λ c. not (is_blank c)) ys) q).0 (subst EndsWord same e))
@@ -149,7 +170,8 @@ bare-run (x ∷ xs) e = (and_parts (not (x == 34)) (list_all (λ c. not (is_blan
 quoted-is : (bytes inside rest : List ℕ) → bytes ≡ 34 ∷ (inside ++ 34 ∷ []) → bytes ++ rest ≡ 34 ∷ (inside ++ 34 ∷ rest)
 quoted-is bytes inside rest e = ap (λ t. t ++ rest) e ∙ ap (λ t. 34 ∷ t) (append_assoc inside (34 ∷ []) rest)
 
-spelled-once : (xs ys word other rest behind : List ℕ) → IsSpelled xs word → IsSpelled ys other → EndsWord rest → EndsWord behind → xs ++ rest ≡ ys ++ behind → (word ≡ other) × (rest ≡ behind)
+spelled-once : (xs ys word other rest behind : List ℕ) → IsSpelled xs word → IsSpelled ys other → EndsWord rest
+    → EndsWord behind → xs ++ rest ≡ ys ++ behind → (word ≡ other) × (rest ≡ behind)
 spelled-once xs ys word other rest behind (inl p) (inl q) e f same =
     let once = run-once xs ys rest behind (bare-run xs p.0) (bare-run ys q.0) e f same in
     (sym p.1 ∙ once.0 ∙ q.1, once.1)
@@ -164,7 +186,8 @@ spelled-once xs ys word other rest behind (inr p) (inr q) e f same =
     let ends : 34 ∷ rest ≡ 34 ∷ behind = once.1 in
     (once.0, cc)
 
-pub first-once : (line word other rest behind : List ℕ) → IsFirstWord line word rest → IsFirstWord line other behind → (word ≡ other) × (rest ≡ behind)
+pub first-once : (line word other rest behind : List ℕ) → IsFirstWord line word rest → IsFirstWord line other behind
+    → (word ≡ other) × (rest ≡ behind)
 first-once line word other rest behind p q =
     spelled-once p.bytes q.bytes word other rest behind p.spelled q.spelled p.apart q.apart (sym (first-behind line word rest p) ∙ first-behind line other behind q)
 
@@ -178,7 +201,8 @@ pub words-ahead : (line : List ℕ) (words : List (List ℕ)) → HasWords line 
 words-ahead line [] h = ap (list_all is_blank) (blank-behind line h)
 words-ahead line (word ∷ words) h = (h.0, first-ahead line word h.0 h.1, h.2)
 
-pub words-once : (words others : List (List ℕ)) (line : List ℕ) → HasWords line words → HasWords line others → words ≡ others
+pub words-once : (words others : List (List ℕ)) (line : List ℕ) → HasWords line words → HasWords line others
+    → words ≡ others
 words-once [] [] line p q = refl
 words-once [] (other ∷ others) line p q = absurd (blank-lacks line (blank-behind line p) other q.0 q.1)
 words-once (word ∷ words) [] line p q = absurd (blank-lacks line (blank-behind line q) word p.0 p.1)
@@ -191,7 +215,8 @@ words-once (word ∷ words) (other ∷ others) line p q =
 
 pub record HasRead (line rest : List ℕ) (found : List (List ℕ)) : Type 0 where
   pub sound : (more : List (List ℕ)) → HasWords rest more → HasWords line (found ++ more)
-  pub only : (all : List (List ℕ)) → HasWords line all → (more : List (List ℕ)) × (all ≡ found ++ more) × HasWords rest more
+  pub only : (all : List (List ℕ)) → HasWords line all
+      → (more : List (List ℕ)) × (all ≡ found ++ more) × HasWords rest more
   pub front : behind_blanks rest ≡ rest
 
 pub HasRead-start : (line : List ℕ) → HasRead line (behind_blanks line) []
@@ -201,7 +226,8 @@ HasRead-start line = record {
   front = behind-again line;
 }
 
-pub HasRead-more : (line rest word behind : List ℕ) (found : List (List ℕ)) → HasRead line rest found → rest ≢ [] → IsFirstWord rest word behind → HasRead line (behind_blanks behind) (found ++ word ∷ [])
+pub HasRead-more : (line rest word behind : List ℕ) (found : List (List ℕ)) → HasRead line rest found → rest ≢ []
+    → IsFirstWord rest word behind → HasRead line (behind_blanks behind) (found ++ word ∷ [])
 HasRead-more line rest word behind found h some first = record {
   sound = λ more has. subst (HasWords line) (sym (append_assoc found (word ∷ []) more)) (h.sound (word ∷ more) (behind, first, words-before behind more has));
   only = λ all has.
@@ -210,7 +236,8 @@ HasRead-more line rest word behind found h some first = record {
   front = behind-again behind;
 }
   where
-    next : (all more : List (List ℕ)) → all ≡ found ++ more → HasWords rest more → (left : List (List ℕ)) × (all ≡ (found ++ word ∷ []) ++ left) × HasWords (behind_blanks behind) left
+    next : (all more : List (List ℕ)) → all ≡ found ++ more → HasWords rest more
+        → (left : List (List ℕ)) × (all ≡ (found ++ word ∷ []) ++ left) × HasWords (behind_blanks behind) left
     next all [] is has = absurd (some (sym h.front ∙ blank-behind rest has))
     next all (other ∷ left) is has =
         let once = first-once rest other word has.0 behind has.1 first in
@@ -223,7 +250,8 @@ HasRead-all line found h = subst (HasWords line) (append_none found) (h.sound []
     append_none [] = refl
     append_none (x ∷ xs) = ap (λ t. x ∷ t) (append_none xs)
 
-pub HasRead-lacks : (line rest : List ℕ) (found all : List (List ℕ)) → HasRead line rest found → rest ≢ [] → LacksWord rest → HasWords line all → ⊥
+pub HasRead-lacks : (line rest : List ℕ) (found all : List (List ℕ)) → HasRead line rest found → rest ≢ []
+    → LacksWord rest → HasWords line all → ⊥
 HasRead-lacks line rest found all h some lacks has = let cut = h.only all has in ends cut.0 cut.2
   where
     ends : (more : List (List ℕ)) → HasWords rest more → ⊥
@@ -233,7 +261,9 @@ HasRead-lacks line rest found all h some lacks has = let cut = h.only all has in
 -- ---- one word in the code
 
 -- a word that begins with no quote, up to a place at which it ends
-pub bare-first : (line : List ℕ) (end : ℕ) → is_bare (take 1 line) ≡ true → end ≤ length line → list_all (λ c. not (is_blank c)) (take end line) ≡ true → EndsWord (drop end line) → IsUtf8 (take end line) → IsFirstTaken line (take end line, end)
+pub bare-first : (line : List ℕ) (end : ℕ) → is_bare (take 1 line) ≡ true → end ≤ length line
+    → list_all (λ c. not (is_blank c)) (take end line) ≡ true → EndsWord (drop end line) → IsUtf8 (take end line)
+    → IsFirstTaken line (take end line, end)
 bare-first [] end bare within run apart utf8 = absurd (true≢false (sym bare))
 bare-first (b ∷ line) end bare within run apart utf8 =
     (within, some, record { gap = []; bytes = take end (b ∷ line); line_is = sym (take-append-drop end (b ∷ line)); blank = refl; spelled = inl (bare_all, refl); utf8 = utf8; apart = apart })
@@ -251,7 +281,8 @@ bare-first (b ∷ line) end bare within run apart utf8 =
     some : 0 < end
     some = positive end apart
 
-    bare_at : (n : ℕ) → 0 < n → list_all (λ c. not (is_blank c)) (take n (b ∷ line)) ≡ true → is_bare (take n (b ∷ line)) ≡ true
+    bare_at : (n : ℕ) → 0 < n → list_all (λ c. not (is_blank c)) (take n (b ∷ line)) ≡ true
+        → is_bare (take n (b ∷ line)) ≡ true
     bare_at zero pos all = absurd (omega arith)
     bare_at (suc n) pos all = ap (λ t. t && list_all (λ c. not (is_blank c)) (b ∷ take n line)) parts.0 ∙ all
 
@@ -259,7 +290,9 @@ bare-first (b ∷ line) end bare within run apart utf8 =
     bare_all = bare_at end some run
 
 -- such a word that isn't UTF-8 is none
-pub bare-lacks : (line : List ℕ) (end : ℕ) → is_bare (take 1 line) ≡ true → list_all (λ c. not (is_blank c)) (take end line) ≡ true → EndsWord (drop end line) → (IsUtf8 (take end line) → ⊥) → behind_blanks line ≡ line → LacksWord line
+pub bare-lacks : (line : List ℕ) (end : ℕ) → is_bare (take 1 line) ≡ true
+    → list_all (λ c. not (is_blank c)) (take end line) ≡ true → EndsWord (drop end line) → (IsUtf8 (take end line) → ⊥)
+    → behind_blanks line ≡ line → LacksWord line
 bare-lacks line end bare run apart bad front word rest h = by h.spelled
   where
     whole : take end line ++ drop end line ≡ h.bytes ++ rest
@@ -297,7 +330,8 @@ pub record IsInQuotes (line rest text : List ℕ) : Type 0 where
   pub stands : StandsFor inside text
 
 -- a quoted word that ends here
-pub quoted-first : (line rest text : List ℕ) → IsInQuotes line rest text → closes rest ≡ true → IsUtf8 text → IsFirstTaken line (text, length line - length rest + 1)
+pub quoted-first : (line rest text : List ℕ) → IsInQuotes line rest text → closes rest ≡ true → IsUtf8 text
+    → IsFirstTaken line (text, length line - length rest + 1)
 quoted-first line rest text h e utf8 =
     let parts = closes-parts rest e in
     let behind = drop 1 rest in
@@ -323,7 +357,8 @@ quoted-first line rest text h e utf8 =
     )
 
 -- where nothing more is written, the first word ends there as it does here
-quoted-once : (line rest text word behind : List ℕ) → IsInQuotes line rest text → written_at rest ≡ None → IsFirstWord line word behind → (text ≡ word) × (rest ≡ 34 ∷ behind)
+quoted-once : (line rest text word behind : List ℕ) → IsInQuotes line rest text → written_at rest ≡ None
+    → IsFirstWord line word behind → (text ≡ word) × (rest ≡ 34 ∷ behind)
 quoted-once line rest text word behind h none first = by first.spelled
   where
     front : behind_blanks line ≡ line
@@ -339,12 +374,14 @@ quoted-once line rest text word behind h none first = by first.spelled
         let tails : h.inside ++ rest ≡ q.0 ++ 34 ∷ behind = cc in
         stands-once text word h.inside q.0 rest behind h.stands q.2 tails none
 
-pub quoted-lacks : (line rest text : List ℕ) → IsInQuotes line rest text → written_at rest ≡ None → closes rest ≡ false → LacksWord line
+pub quoted-lacks : (line rest text : List ℕ) → IsInQuotes line rest text → written_at rest ≡ None → closes rest ≡ false
+    → LacksWord line
 quoted-lacks line rest text h none unclosed word behind first =
     let once = quoted-once line rest text word behind h none first in
     true≢false (sym (closes-quote behind first.apart) ∙ ap closes (sym once.1) ∙ unclosed)
 
-pub quoted-no_text : (line rest text : List ℕ) → IsInQuotes line rest text → written_at rest ≡ None → (IsUtf8 text → ⊥) → LacksWord line
+pub quoted-no_text : (line rest text : List ℕ) → IsInQuotes line rest text → written_at rest ≡ None → (IsUtf8 text → ⊥)
+    → LacksWord line
 quoted-no_text line rest text h none bad word behind first =
     let once = quoted-once line rest text word behind h none first in
     bad (subst IsUtf8 (sym once.0) first.utf8)
@@ -352,10 +389,12 @@ quoted-no_text line rest text h none bad word behind first =
 -- a quote is at the front, and nothing was passed
 pub quoted-start : (line : List ℕ) → take 1 line ≡ 34 ∷ [] → IsInQuotes line (drop 1 line) []
 quoted-start [] e = absurd cc
-quoted-start (b ∷ line) e = record { inside = []; is = let head : b ≡ 34 = cc in ap (λ (c : ℕ). c ∷ line) head; stands = refl }
+quoted-start (b ∷ line) e =
+    record { inside = []; is = let head : b ≡ 34 = cc in ap (λ (c : ℕ). c ∷ line) head; stands = refl }
 
 -- one byte more
-pub quoted-more : (line rest text more : List ℕ) (b : ℕ) → IsInQuotes line rest text → written_at rest ≡ Some (b, more) → IsInQuotes line more (text ++ b ∷ [])
+pub quoted-more : (line rest text more : List ℕ) (b : ℕ) → IsInQuotes line rest text → written_at rest ≡ Some (b, more)
+    → IsInQuotes line more (text ++ b ∷ [])
 quoted-more line rest text more b h found =
     let ahead = written_at-found rest b more found in
     record {
@@ -381,7 +420,9 @@ some-by [] e = λ _. true≢false e
 some-by (x ∷ xs) e = λ none. absurd cc
 
 -- a line that begins with a word and no quote
-pub bare-start : (line : List ℕ) → 0 < length line → behind_blanks line ≡ line → get_or line 0 0 ≢ 34 → is_bare (take 1 line) ≡ true
+pub bare-start : (line : List ℕ) → 0 < length line → behind_blanks line ≡ line → get_or line 0 0 ≢ 34
+    → is_bare (take 1 line) ≡ true
 bare-start [] some front other = absurd (omega arith)
 bare-start (b ∷ line) some front other =
-    ap (λ t. not t && (not (is_blank b) && true)) (ne_eqb b 34 other) ∙ ap (λ t. not t && true) (front-other b line front)
+    ap (λ t. not t && (not (is_blank b) && true)) (ne_eqb b 34 other)
+    ∙ ap (λ t. not t && true) (front-other b line front)

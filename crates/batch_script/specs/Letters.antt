@@ -29,7 +29,8 @@ IsWritten text byte = (text ≡ quoted_byte byte) ⊎ IsHexadecimal text byte
 -- bytes in quotes stand for a text: they write its bytes one after the other
 abbrev pub StandsFor : List ℕ → List ℕ → Type 0
 StandsFor inside [] = inside ≡ []
-StandsFor inside (byte ∷ text) = (first rest : List ℕ) × (inside ≡ first ++ rest) × IsWritten first byte × StandsFor rest text
+StandsFor inside (byte ∷ text) =
+    (first rest : List ℕ) × (inside ≡ first ++ rest) × IsWritten first byte × StandsFor rest text
 
 -- ---- the same read from the front, for the code
 

@@ -39,7 +39,10 @@ with_steps session (step ∷ steps) = Some (record { session = session; steps = 
 
 -- a phase has the sessions with steps, ascending
 abbrev pub phase_of : List Item → phase.Phase
-phase_of items = record { sessions = filter_map (λ session. with_steps session (steps_behind session None items)) (range_with_len 1 most_sessions) }
+phase_of items =
+    record {
+      sessions = filter_map (λ session. with_steps session (steps_behind session None items)) (range_with_len 1 most_sessions);
+    }
 
 -- the key that a handle is opened with
 abbrev pub proc_of : Item → Option ProcLine

@@ -14,7 +14,8 @@ use Rattle.batch_script.specs.Scripts.{Adds}
 -- a room for each session, with its steps among some items
 pub record HasRooms (rooms : List (Vec Step Global)) (items : List Item) : Type 0 where
   pub many : length rooms ≡ most_sessions
-  pub each : (i : ℕ) (d : Vec Step Global) → i < most_sessions → (slice_index_or rooms i d).items ≡ steps_behind (i + 1) None items
+  pub each : (i : ℕ) (d : Vec Step Global) → i < most_sessions
+      → (slice_index_or rooms i d).items ≡ steps_behind (i + 1) None items
 
 -- the code keeps what some items say
 pub record IsProgress (progress : Progress) (items : List Item) : Type 0 where

@@ -46,7 +46,8 @@ on_meta word meta value = if is_meta meta then on_name (λ name. MetaStep name m
 
 -- one that sets the working set in some tries
 abbrev pub merge_of : Name → List ℕ → List ℕ → Option Item
-merge_of parent strategy tries = option_and_then (λ by. option_map (λ most. Does (Merge parent by most)) (tries_of tries)) (strategy_of strategy)
+merge_of parent strategy tries =
+    option_and_then (λ by. option_map (λ most. Does (Merge parent by most)) (tries_of tries)) (strategy_of strategy)
 
 abbrev pub on_merge : List ℕ → List ℕ → List ℕ → Option Item
 on_merge word strategy tries = option_and_then (λ parent. merge_of parent strategy tries) (name_of word)

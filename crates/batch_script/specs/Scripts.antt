@@ -26,7 +26,8 @@ pub record Says (before : List Item) (line : List ℕ) (item : Item) : Type 0 wh
 
 -- what all lines say behind one more: it says one thing more, or nothing
 abbrev pub Means : List Item → List ℕ → List Item → Type 0
-Means before line after = (MeansNothing line × (after ≡ before)) ⊎ ((item : Item) × Says before line item × (after ≡ before ++ item ∷ []))
+Means before line after =
+    (MeansNothing line × (after ≡ before)) ⊎ ((item : Item) × Says before line item × (after ≡ before ++ item ∷ []))
 
 -- a line is UTF-8; one carriage return at its end is dropped
 pub record Adds (before : List Item) (line : List ℕ) (after : List Item) : Type 0 where

@@ -54,12 +54,14 @@ pub fn words_say_what_their_row_says()
     ensures few { said (codes "put" ∷ codes "user:/sw" ∷ []) ≡ None }
     ensures cascading { said (codes "cut" ∷ codes "/sw" ∷ []) ≡ None }
     ensures unknown { said (codes "fetch" ∷ codes "/" ∷ []) ≡ None }
-    ensures merge { merge_of (record { namespace = Cascading; parts = [] }) (codes "our") (codes "7") ≡ Some (Does (Merge (record { namespace = Cascading; parts = [] }) Our 7)) }
+    ensures merge { merge_of (record { namespace = Cascading; parts = [] }) (codes "our") (codes "7")
+        ≡ Some (Does (Merge (record { namespace = Cascading; parts = [] }) Our 7)) }
     ensures strategy { said (codes "merge" ∷ codes "/" ∷ codes "ours" ∷ codes "7" ∷ []) ≡ None }
     ensures no_tries { said (codes "merge" ∷ codes "/" ∷ codes "our" ∷ codes "0" ∷ []) ≡ None }
     ensures too_many_tries { said (codes "merge" ∷ codes "/" ∷ codes "our" ∷ codes "100001" ∷ []) ≡ None }
     ensures leading_zero { said (codes "merge" ∷ codes "/" ∷ codes "our" ∷ codes "07" ∷ []) ≡ None }
-    ensures watch { watch_of (record { namespace = Cascading; parts = [] }) (codes "2") ≡ Some (Does (Watch (record { namespace = Cascading; parts = [] }) 2)) }
+    ensures watch { watch_of (record { namespace = Cascading; parts = [] }) (codes "2")
+        ≡ Some (Does (Watch (record { namespace = Cascading; parts = [] }) 2)) }
     ensures no_room { said (codes "watch" ∷ codes "/" ∷ codes "0" ∷ []) ≡ None }
     ensures too_much_room { said (codes "watch" ∷ codes "/" ∷ codes "4097" ∷ []) ≡ None }
     ensures room_left_out { said (codes "watch" ∷ codes "/" ∷ []) ≡ None }
@@ -82,10 +84,13 @@ pub fn bytes_are_written_in_quotes()
 
 /// A key of a handle stands in the header, and a step behind a session of its own phase.
 pub fn lines_have_their_places()
-    ensures header { may_follow (Session 1 ∷ []) (Proc (record { session = 1; key = record { namespace = ProcNamespace; parts = [] }; value = [] })) ≡ false }
-    ensures behind_phase { may_follow (PhaseEnd ∷ []) (Proc (record { session = 1; key = record { namespace = ProcNamespace; parts = [] }; value = [] })) ≡ false }
+    ensures header { may_follow (Session 1 ∷ []) (Proc (record { session = 1; key = record { namespace = ProcNamespace; parts = [] }; value = [] }))
+        ≡ false }
+    ensures behind_phase { may_follow (PhaseEnd ∷ []) (Proc (record { session = 1; key = record { namespace = ProcNamespace; parts = [] }; value = [] }))
+        ≡ false }
     ensures step { may_follow (Session 1 ∷ []) (Does (Get (record { namespace = Cascading; parts = [] }))) ≡ true }
-    ensures next_phase { may_follow (Session 1 ∷ PhaseEnd ∷ []) (Does (Get (record { namespace = Cascading; parts = [] }))) ≡ false }
+    ensures next_phase { may_follow (Session 1 ∷ PhaseEnd ∷ []) (Does (Get (record { namespace = Cascading; parts = [] })))
+        ≡ false }
 {}
 
 /// Sessions stand in ascending order in a phase, with all their steps, and a phase may have none.

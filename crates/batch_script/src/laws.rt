@@ -11,20 +11,25 @@ ghost use Rattle.batch_script.specs.Scripts.{feeds_and_rest, IsBadAt, Reads};
 
 /// Bytes read as just one script or have just one first bad line, never both.
 pub fn bytes_read_as_one_script_or_are_bad_at_one_line()
-    ensures one_script { (bytes : List ℕ) (script other : code.Script) → Reads bytes script → Reads bytes other → script ≡ other }
+    ensures one_script { (bytes : List ℕ) (script other : code.Script) → Reads bytes script → Reads bytes other
+        → script ≡ other }
     ensures one_line { (bytes : List ℕ) (line other : ℕ) → IsBadAt bytes line → IsBadAt bytes other → line ≡ other }
-    ensures always { (bytes : List ℕ) → ((script : code.Script) × Reads bytes script) ⊎ ((line : ℕ) × IsBadAt bytes line) }
-    ensures not_both { (bytes : List ℕ) (script : code.Script) (line : ℕ) → Reads bytes script → IsBadAt bytes line → ⊥ }
+    ensures always { (bytes : List ℕ)
+        → ((script : code.Script) × Reads bytes script) ⊎ ((line : ℕ) × IsBadAt bytes line) }
+    ensures not_both { (bytes : List ℕ) (script : code.Script) (line : ℕ) → Reads bytes script → IsBadAt bytes line
+        → ⊥ }
 {}
 
 /// In each phase of a script that bytes read as the sessions ascend, from 1 to 32.
 pub fn sessions_ascend_in_each_phase()
-    ensures { (bytes : List ℕ) (script : code.Script) → Reads bytes script → AllByRecursion (λ (phase : phases.Phase). AreAscending phase.sessions) script.phases }
+    ensures { (bytes : List ℕ) (script : code.Script) → Reads bytes script
+        → AllByRecursion (λ (phase : phases.Phase). AreAscending phase.sessions) script.phases }
 {}
 
 /// The keys of handles in a script that bytes read as have names in the namespace `proc`.
 pub fn proc_lines_have_keys_in_proc()
-    ensures { (bytes : List ℕ) (script : code.Script) → Reads bytes script → AllByRecursion (λ (line : keys.ProcLine). line.key.namespace ≡ Proc) script.proc }
+    ensures { (bytes : List ℕ) (script : code.Script) → Reads bytes script
+        → AllByRecursion (λ (line : keys.ProcLine). line.key.namespace ≡ Proc) script.proc }
 {}
 
 /// The number of lines is the number of line feeds, and one more if something follows the last.

@@ -13,9 +13,11 @@ use Rattle.chunked_map.proofs.JoinLemmas.{take_one_more, drop_one_less, sorted-t
 
 module _ {K X : Type 0} (R : K → K → Ordering) (q : K) where
   -- a chunk before q has only such chunks before it
-  pub before_some : (o : IsTotalOrder R) (xs c : List (K × X)) → 0 < length c → T (is_sorted R (xs ++ c)) → T (all_before R q c) → T (all_before R q (xs ++ c))
+  pub before_some : (o : IsTotalOrder R) (xs c : List (K × X)) → 0 < length c → T (is_sorted R (xs ++ c))
+      → T (all_before R q c) → T (all_before R q (xs ++ c))
   before_some o xs [] some h past = absurd (omega arith)
-  before_some o xs (y ∷ ys) some h past = all_before-append R q xs (y ∷ ys) (all_before-front R o q xs y ys h (less _ (first _ _ past))) past
+  before_some o xs (y ∷ ys) some h past =
+      all_before-append R q xs (y ∷ ys) (all_before-front R o q xs y ys h (less _ (first _ _ past))) past
 
   module _ (o : IsTotalOrder R) (cs : List (List (K × X))) (are : AreChunks R cs) (at : ℕ) (c : List (K × X)) (lt : at < length cs) (is : c ≡ get_or cs at c) where
     pub before_next : T (all_before R q c) → T (all_before R q (joined (take (suc at) cs)))
@@ -28,10 +30,12 @@ module _ {K X : Type 0} (R : K → K → Ordering) (q : K) where
     before_more n e past = subst (λ m. T (all_before R q (joined (take m cs)))) (sym e) (before_next past)
 
     pub sorted_here : T (is_sorted R (c ++ joined (drop (suc at) cs)))
-    sorted_here = subst (λ (es : List (K × X)). T (is_sorted R (es ++ joined (drop (suc at) cs)))) (sym is) (subst (λ es. T (is_sorted R es)) (drop_one_less cs at c lt) (sorted-drop R cs are.sorted at))
+    sorted_here =
+        subst (λ (es : List (K × X)). T (is_sorted R (es ++ joined (drop (suc at) cs)))) (sym is) (subst (λ es. T (is_sorted R es)) (drop_one_less cs at c lt) (sorted-drop R cs are.sorted at))
 
   -- a key before none is behind all
-  pub behind_none : (cs : List (List (K × X))) → T (all_before R q (joined (take (length cs) cs))) → IsChunkOf R cs q (length cs)
+  pub behind_none : (cs : List (List (K × X))) → T (all_before R q (joined (take (length cs) cs)))
+      → IsChunkOf R cs q (length cs)
   behind_none cs h = record {
     within = omega arith;
     before = h;
@@ -39,7 +43,8 @@ module _ {K X : Type 0} (R : K → K → Ordering) (q : K) where
   }
 
 -- the entries up to a chunk and those in it can be counted
-pub countable : {K X : Type 0} (R : K → K → Ordering) (cs : List (List (K × X))) (i : ℕ) (c : List (K × X)) → AreChunks R cs → i < length cs → c ≡ get_or cs i c → length (joined (take i cs)) + length c ≤ 2 ^ 63
+pub countable : {K X : Type 0} (R : K → K → Ordering) (cs : List (List (K × X))) (i : ℕ) (c : List (K × X))
+    → AreChunks R cs → i < length cs → c ≡ get_or cs i c → length (joined (take i cs)) + length c ≤ 2 ^ 63
 countable R cs i c are lt is =
     let next = ap length (take_one_more cs i c lt) ∙ length-append (joined (take i cs)) (get_or cs i c) in
     let most = length_sized (take (suc i) cs) (sized-take (suc i) cs are.sizes) in

@@ -51,7 +51,8 @@ in_one_chunk b len cost some few = elim (cases_lt b 7) [
 ]
 
 -- the search among the chunks and the one in a chunk
-pub both_searches : (a b c m len : ℕ) → c ≡ a + b → 2 ^ a ≤ 2 * (m - 1) + 1 → 2 ^ b ≤ 2 * (len - 1) + 1 → 0 < len → len ≤ 64 → 2 ^ c ≤ 64 * (2 * (m - 1) + 1)
+pub both_searches : (a b c m len : ℕ) → c ≡ a + b → 2 ^ a ≤ 2 * (m - 1) + 1 → 2 ^ b ≤ 2 * (len - 1) + 1 → 0 < len
+    → len ≤ 64 → 2 ^ c ≤ 64 * (2 * (m - 1) + 1)
 both_searches a b c m len sum among inside some few =
     let parts : 2 ^ c ≡ 2 ^ a * 2 ^ b = ap (λ k. 2 ^ k) sum ∙ pow-add 2 a b in
     let product = mul-le-mul among (in_one_chunk b len inside some few) in
@@ -62,7 +63,8 @@ pub first_search : (a m : ℕ) → 2 ^ a ≤ 2 * (m - 1) + 1 → 2 ^ a ≤ 64 * 
 first_search a m among = omega (arith, among)
 
 -- the last key is looked at before
-pub looked_before : (a c m n : ℕ) → c ≤ suc a → 2 ^ a ≤ 64 * (2 * (m - 1) + 1) → 0 < m → m ≤ n → 2 ^ c ≤ 128 * (2 * n + 1)
+pub looked_before : (a c m n : ℕ) → c ≤ suc a → 2 ^ a ≤ 64 * (2 * (m - 1) + 1) → 0 < m → m ≤ n
+    → 2 ^ c ≤ 128 * (2 * n + 1)
 looked_before a c m n le cost some chunks =
     let more = pow-le-pow_right {n = 2} (omega arith) le in
     let twice = pow-suc 2 a in
@@ -79,20 +81,27 @@ no_more_chunks (c ∷ cs) h =
 
 module _ {K X : Type 0} (R : K → K → Ordering) (o : IsTotalOrder R) (q : K) where
   -- keys before one that is before q
-  pub less_up_to : (es : List (K × X)) (m k : ℕ) (d e : K × X) → T (is_sorted R es) → m < length es → k ≤ m → R (get_or es m d).0 q ≡ Less → R (get_or es k e).0 q ≡ Less
+  pub less_up_to : (es : List (K × X)) (m k : ℕ) (d e : K × X) → T (is_sorted R es) → m < length es → k ≤ m
+      → R (get_or es m d).0 q ≡ Less → R (get_or es k e).0 q ≡ Less
   less_up_to [] m k d e h lt le is = absurd (omega arith)
   less_up_to (f ∷ es) zero zero d e h lt le is = is
   less_up_to (f ∷ es) zero (suc k) d e h lt le is = absurd (omega arith)
-  less_up_to (f ∷ es) (suc m) zero d e h lt le is = o.trans f.0 (get_or es m d).0 q (below_at R f.0 es (first _ _ h) m d (omega arith)) is
-  less_up_to (f ∷ es) (suc m) (suc k) d e h lt le is = less_up_to es m k d e (second _ _ h) (omega arith) (omega arith) is
+  less_up_to (f ∷ es) (suc m) zero d e h lt le is =
+      o.trans f.0 (get_or es m d).0 q (below_at R f.0 es (first _ _ h) m d (omega arith)) is
+  less_up_to (f ∷ es) (suc m) (suc k) d e h lt le is =
+      less_up_to es m k d e (second _ _ h) (omega arith) (omega arith) is
 
-  behind_first : (f : K × X) (es : List (K × X)) (k : ℕ) (e : K × X) → T (below_all R f.0 es) → k < length es → R f.0 q ≡ Greater → R (get_or es k e).0 q ≡ Greater
-  behind_first f es k e h lt is = turned o q (get_or es k e).0 Less (o.trans q f.0 (get_or es k e).0 (turned o f.0 q Greater is) (below_at R f.0 es h k e lt))
+  behind_first : (f : K × X) (es : List (K × X)) (k : ℕ) (e : K × X) → T (below_all R f.0 es) → k < length es
+      → R f.0 q ≡ Greater → R (get_or es k e).0 q ≡ Greater
+  behind_first f es k e h lt is =
+      turned o q (get_or es k e).0 Less (o.trans q f.0 (get_or es k e).0 (turned o f.0 q Greater is) (below_at R f.0 es h k e lt))
 
   -- keys behind one that is behind q
-  pub greater_from : (es : List (K × X)) (m k : ℕ) (d e : K × X) → T (is_sorted R es) → k < length es → m ≤ k → R (get_or es m d).0 q ≡ Greater → R (get_or es k e).0 q ≡ Greater
+  pub greater_from : (es : List (K × X)) (m k : ℕ) (d e : K × X) → T (is_sorted R es) → k < length es → m ≤ k
+      → R (get_or es m d).0 q ≡ Greater → R (get_or es k e).0 q ≡ Greater
   greater_from [] m k d e h lt le is = absurd (omega arith)
   greater_from (f ∷ es) zero zero d e h lt le is = is
   greater_from (f ∷ es) zero (suc k) d e h lt le is = behind_first f es k e (first _ _ h) (omega arith) is
   greater_from (f ∷ es) (suc m) zero d e h lt le is = absurd (omega arith)
-  greater_from (f ∷ es) (suc m) (suc k) d e h lt le is = greater_from es m k d e (second _ _ h) (omega arith) (omega arith) is
+  greater_from (f ∷ es) (suc m) (suc k) d e h lt le is =
+      greater_from es m k d e (second _ _ h) (omega arith) (omega arith) is

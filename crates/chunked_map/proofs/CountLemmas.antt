@@ -37,7 +37,8 @@ module _ {A : Type 0} where
   drop_in (x ∷ xs) ys (suc m) le = drop_in xs ys m (omega arith)
 
   -- the entries from a place in a chunk on: those of the chunk, and the chunks behind it
-  pub drop_at_chunk : (cs : List (List A)) (at left p : ℕ) (c : List A) → at < length cs → c ≡ get_or cs at c → length (joined (take at cs)) + left ≡ p → left < length (get_or cs at [])
+  pub drop_at_chunk : (cs : List (List A)) (at left p : ℕ) (c : List A) → at < length cs → c ≡ get_or cs at c
+      → length (joined (take at cs)) + left ≡ p → left < length (get_or cs at [])
       → drop left c ++ joined (drop (suc at) cs) ≡ drop p (joined cs)
   drop_at_chunk cs at left p c lt is place inside =
       let len = ap length (same_default cs at [] c lt ∙ sym is) in
@@ -47,7 +48,8 @@ module _ {A : Type 0} where
 
 module _ {K X : Type 0} (R : K → K → Ordering) (o : IsTotalOrder R) (q : K) where
   -- a key before q has only such before it
-  pub before_up_to : (es : List (K × X)) (k : ℕ) (d : K × X) → k < length es → T (is_sorted R es) → T (is_lt (R (get_or es k d).0 q)) → T (all_before R q (take (suc k) es))
+  pub before_up_to : (es : List (K × X)) (k : ℕ) (d : K × X) → k < length es → T (is_sorted R es)
+      → T (is_lt (R (get_or es k d).0 q)) → T (all_before R q (take (suc k) es))
   before_up_to [] k d lt h past = absurd (omega arith)
   before_up_to (e ∷ es) zero d lt h past = both _ _ past tt
   before_up_to (e ∷ es) (suc k) d lt h past =
@@ -55,15 +57,19 @@ module _ {K X : Type 0} (R : K → K → Ordering) (o : IsTotalOrder R) (q : K) 
 
   pub none_below : (es : List (K × X)) → T (below_all R q es) → T (none_before R q es)
   none_below [] h = tt
-  none_below (e ∷ es) h = both _ _ (subst (λ r. T (not (is_lt r))) (sym (turned o q e.0 Less (less _ (first _ _ h)))) tt) (none_below es (second _ _ h))
+  none_below (e ∷ es) h =
+      both _ _ (subst (λ r. T (not (is_lt r))) (sym (turned o q e.0 Less (less _ (first _ _ h)))) tt) (none_below es (second _ _ h))
 
   -- and one that is not before q has only such behind it
-  pub none_from : (es : List (K × X)) (k : ℕ) (d : K × X) → k < length es → T (is_sorted R es) → is_lt (R (get_or es k d).0 q) ≡ false → T (none_before R q (drop k es))
+  pub none_from : (es : List (K × X)) (k : ℕ) (d : K × X) → k < length es → T (is_sorted R es)
+      → is_lt (R (get_or es k d).0 q) ≡ false → T (none_before R q (drop k es))
   none_from [] k d lt h late = absurd (omega arith)
-  none_from (e ∷ es) zero d lt h late = both _ _ (subst (λ b. T (not b)) (sym late) tt) (none_below es (behind_key R o q e.0 es (first _ _ h) late))
+  none_from (e ∷ es) zero d lt h late =
+      both _ _ (subst (λ b. T (not b)) (sym late) tt) (none_below es (behind_key R o q e.0 es (first _ _ h) late))
   none_from (e ∷ es) (suc k) d lt h late = none_from es k d (omega arith) (second _ _ h) late
 
-  none_before-append : (xs ys : List (K × X)) → T (none_before R q xs) → T (none_before R q ys) → T (none_before R q (xs ++ ys))
+  none_before-append : (xs ys : List (K × X)) → T (none_before R q xs) → T (none_before R q ys)
+      → T (none_before R q (xs ++ ys))
   none_before-append [] ys g h = h
   none_before-append (x ∷ xs) ys g h = both _ _ (first _ _ g) (none_before-append xs ys (second _ _ g) h)
 

@@ -52,13 +52,15 @@ module _ {K X : Type 0} (R : K → K → Ordering) (o : IsTotalOrder R) (q : K) 
     after = λ k d le lt. absurd (omega arith);
   }
     where
-      each : (es : List (K × X)) (k : ℕ) (d : K × X) → k < length es → T (all_before R q es) → R (get_or es k d).0 q ≡ Less
+      each : (es : List (K × X)) (k : ℕ) (d : K × X) → k < length es → T (all_before R q es)
+          → R (get_or es k d).0 q ≡ Less
       each [] k d lt h = absurd (omega arith)
       each (e ∷ es) zero d lt h = less _ (first _ _ h)
       each (e ∷ es) (suc k) d lt h = each es k d (omega arith) (second _ _ h)
 
   -- so it would at the end of the last chunk
-  pub gap_at_end : (cs : List (List (K × X))) (m n : ℕ) → suc m ≡ length cs → n ≡ length (get_or cs m []) → T (all_before R q (joined (take (length cs) cs))) → IsGap R (get_or cs m []) q n
+  pub gap_at_end : (cs : List (List (K × X))) (m n : ℕ) → suc m ≡ length cs → n ≡ length (get_or cs m [])
+      → T (all_before R q (joined (take (length cs) cs))) → IsGap R (get_or cs m []) q n
   gap_at_end cs m n last end h =
       let parts = ap (λ n. joined (take n cs)) (sym last) ∙ take_one_more cs m [] (omega arith) in
       gap_end (get_or cs m []) n end (all_before-right (joined (take m cs)) (get_or cs m []) (subst (λ es. T (all_before R q es)) parts h))
@@ -81,7 +83,9 @@ module _ {K X : Type 0} (R : K → K → Ordering) (o : IsTotalOrder R) (q : K) 
     pub larger_back : p ≤ n → T (below_all R q (drop n c))
     larger_back le = all_larger c n (λ k d ge lt. gap.after k d (omega arith) lt)
       where
-        all_larger : (es : List (K × X)) (m : ℕ) → ((k : ℕ) (d : K × X) → m ≤ k → k < length es → R (get_or es k d).0 q ≡ Greater) → T (below_all R q (drop m es))
+        all_larger : (es : List (K × X)) (m : ℕ)
+            → ((k : ℕ) (d : K × X) → m ≤ k → k < length es → R (get_or es k d).0 q ≡ Greater)
+            → T (below_all R q (drop m es))
         all_larger [] zero h = tt
         all_larger [] (suc m) h = tt
         all_larger (e ∷ es) zero h =
@@ -102,10 +106,13 @@ module _ {K X : Type 0} (R : K → K → Ordering) (o : IsTotalOrder R) (q : K) 
     pub smaller_front : n ≤ p → T (all_before R q (take n c))
     smaller_front le = all_smaller c n (λ k d lt in_list. gap.before k d (omega arith))
       where
-        all_smaller : (es : List (K × X)) (m : ℕ) → ((k : ℕ) (d : K × X) → k < m → k < length es → R (get_or es k d).0 q ≡ Less) → T (all_before R q (take m es))
+        all_smaller : (es : List (K × X)) (m : ℕ)
+            → ((k : ℕ) (d : K × X) → k < m → k < length es → R (get_or es k d).0 q ≡ Less)
+            → T (all_before R q (take m es))
         all_smaller es zero h = tt
         all_smaller [] (suc m) h = tt
-        all_smaller (e ∷ es) (suc m) h = both _ _ (is_less _ (h 0 e (omega arith) (omega arith))) (all_smaller es m (λ k d lt in_list. h (suc k) d (omega arith) (omega arith)))
+        all_smaller (e ∷ es) (suc m) h =
+            both _ _ (is_less _ (h 0 e (omega arith) (omega arith))) (all_smaller es m (λ k d lt in_list. h (suc k) d (omega arith) (omega arith)))
 
   -- the half of a chunk into which a key belongs, and its gap there
   module _ (cs ds : List (List (K × X))) (at p : ℕ) (lt : at < length cs) (e : ds ≡ parted cs at 32) (gap : IsGap R (get_or cs at []) q p) where
@@ -125,7 +132,8 @@ module _ {K X : Type 0} (R : K → K → Ordering) (o : IsTotalOrder R) (q : K) 
         subst (λ es. IsGap R es q n) (sym here) (subst (λ n. IsGap R other q n) (sym place) (gap_back (get_or cs at []) p 32 gap le))
 
     module _ (home : IsChunkOf R cs q at) where
-      drop_front : (cs : List (List (K × X))) (at : ℕ) (a b : List (K × X)) → at < length cs → joined (drop (suc at) (take at cs ++ (a ∷ b ∷ drop (suc at) cs))) ≡ b ++ joined (drop (suc at) cs)
+      drop_front : (cs : List (List (K × X))) (at : ℕ) (a b : List (K × X)) → at < length cs
+          → joined (drop (suc at) (take at cs ++ (a ∷ b ∷ drop (suc at) cs))) ≡ b ++ joined (drop (suc at) cs)
       drop_front [] at a b lt = absurd (omega arith)
       drop_front (c ∷ cs) zero a b lt = refl
       drop_front (c ∷ cs) (suc at) a b lt = drop_front cs at a b (omega arith)
@@ -155,6 +163,7 @@ module _ {K X : Type 0} (R : K → K → Ordering) (o : IsTotalOrder R) (q : K) 
       let same = with_first c (omega (arith, place.in_range)) (λ d. length-put_there R q v (get_or c p d).1 c o sorted (find-place R o q c sorted p d place.in_range (place.tied d))) in
       omega (arith, same, few, len)
     where
-      with_first : (es : List (K × X)) → 0 < length es → ((d : K × X) → length (put R q v c) ≡ length c) → length (put R q v c) ≡ length c
+      with_first : (es : List (K × X)) → 0 < length es → ((d : K × X) → length (put R q v c) ≡ length c)
+          → length (put R q v c) ≡ length c
       with_first [] some h = absurd (omega arith)
       with_first (e ∷ es) some h = h e

@@ -21,13 +21,17 @@ module _ {K X : Type 0} (R : K → K → Ordering) (o : IsTotalOrder R) (q : K) 
     whole = joined_at cs at c lt ∙ ap (around at) (sym is)
 
     pub find_in : find R q c ≡ find R q (joined cs)
-    find_in = sym (ap (find R q) whole ∙ find-between R o q (joined (take at cs)) c (joined (drop (suc at) cs)) place.before place.behind)
+    find_in =
+        sym (ap (find R q) whole ∙ find-between R o q (joined (take at cs)) c (joined (drop (suc at) cs)) place.before place.behind)
 
     pub put_in_is : (v : X) → joined (set cs at (put R q v c)) ≡ put R q v (joined cs)
-    put_in_is v = joined_set cs at (put R q v c) lt ∙ sym (ap (put R q v) whole ∙ put-between R o q (joined (take at cs)) c (joined (drop (suc at) cs)) place.before place.behind v)
+    put_in_is v =
+        joined_set cs at (put R q v c) lt
+        ∙ sym (ap (put R q v) whole ∙ put-between R o q (joined (take at cs)) c (joined (drop (suc at) cs)) place.before place.behind v)
 
     without_in : around at (where_key R (λ k. not (eq_by_cmp R q k)) c) ≡ where_key R (λ k. not (eq_by_cmp R q k)) (joined cs)
-    without_in = sym (ap (where_key R (λ k. not (eq_by_cmp R q k))) whole ∙ without-between R o q (joined (take at cs)) c (joined (drop (suc at) cs)) place.before place.behind)
+    without_in =
+        sym (ap (where_key R (λ k. not (eq_by_cmp R q k))) whole ∙ without-between R o q (joined (take at cs)) c (joined (drop (suc at) cs)) place.before place.behind)
 
     pub without_set : joined (set cs at (where_key R (λ k. not (eq_by_cmp R q k)) c)) ≡ where_key R (λ k. not (eq_by_cmp R q k)) (joined cs)
     without_set = joined_set cs at _ lt ∙ without_in
@@ -45,7 +49,8 @@ module _ {K X : Type 0} (R : K → K → Ordering) (o : IsTotalOrder R) (q : K) 
       }
 
       pub put_are : (v : X) → length (put R q v c) ≤ 64 → AreChunks R (set cs at (put R q v c))
-      put_are v few = set_are (put R q v c) (record { some = some-put R q v c; few = few }) (subst (λ es. T (is_sorted R es)) (sym (put_in_is v)) (is_sorted-put R o q v (joined cs) are.sorted))
+      put_are v few =
+          set_are (put R q v c) (record { some = some-put R q v c; few = few }) (subst (λ es. T (is_sorted R es)) (sym (put_in_is v)) (is_sorted-put R o q v (joined cs) are.sorted))
 
       sorted_without : T (is_sorted R (where_key R (λ k. not (eq_by_cmp R q k)) (joined cs)))
       sorted_without = is_sorted-where_key R (λ k. not (eq_by_cmp R q k)) (joined cs) are.sorted
@@ -53,7 +58,8 @@ module _ {K X : Type 0} (R : K → K → Ordering) (o : IsTotalOrder R) (q : K) 
       sized_here : IsSized c
       sized_here = subst IsSized (sym is) (sized_at cs at c lt are.sizes)
 
-      pub without_are : 0 < length (where_key R (λ k. not (eq_by_cmp R q k)) c) → AreChunks R (set cs at (where_key R (λ k. not (eq_by_cmp R q k)) c))
+      pub without_are : 0 < length (where_key R (λ k. not (eq_by_cmp R q k)) c)
+          → AreChunks R (set cs at (where_key R (λ k. not (eq_by_cmp R q k)) c))
       without_are some =
           let fewer = length-without R (λ k. not (eq_by_cmp R q k)) c in
           let few = sized_here.few in
@@ -84,10 +90,13 @@ module _ {K X : Type 0} (R : K → K → Ordering) (o : IsTotalOrder R) (q : K) 
     find_end = ap (find R q) (sym bare) ∙ find-between R o q (joined cs) [] [] all_are_before tt
 
     pub put_end : (v : X) → joined (cs ++ put R q v [] ∷ []) ≡ put R q v (joined cs)
-    put_end v = joined-append cs (put R q v [] ∷ []) ∙ sym (ap (put R q v) (sym bare) ∙ put-between R o q (joined cs) [] [] all_are_before tt v)
+    put_end v =
+        joined-append cs (put R q v [] ∷ [])
+        ∙ sym (ap (put R q v) (sym bare) ∙ put-between R o q (joined cs) [] [] all_are_before tt v)
 
     pub without_end : joined cs ≡ where_key R (λ k. not (eq_by_cmp R q k)) (joined cs)
-    without_end = sym (ap (where_key R (λ k. not (eq_by_cmp R q k))) (sym bare) ∙ without-between R o q (joined cs) [] [] all_are_before tt ∙ bare)
+    without_end =
+        sym (ap (where_key R (λ k. not (eq_by_cmp R q k))) (sym bare) ∙ without-between R o q (joined cs) [] [] all_are_before tt ∙ bare)
 
     pub end_are : (v : X) → length cs < 2 ^ 57 → AreChunks R cs → AreChunks R (cs ++ put R q v [] ∷ [])
     end_are v room are = record {

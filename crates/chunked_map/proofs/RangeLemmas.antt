@@ -16,13 +16,16 @@ pub in_a_chunk : (at n left : ℕ) → (n ≤ at → left ≡ 0) → (left ≡ 0
 in_a_chunk at n left behind some = elim (cases_lt at n) [ inl lt ↦ lt | inr le ↦ absurd (some (behind le)) ]
 
 module _ {A : Type 0} where
-  pub take_front : (cs : List A) (at m : ℕ) (others : List A) → at < length cs → m ≤ at → take m (in_place cs at others) ≡ take m cs
+  pub take_front : (cs : List A) (at m : ℕ) (others : List A) → at < length cs → m ≤ at
+      → take m (in_place cs at others) ≡ take m cs
   take_front cs at zero others lt le = refl
   take_front [] at (suc m) others lt le = absurd (omega arith)
   take_front (c ∷ cs) zero (suc m) others lt le = absurd (omega arith)
-  take_front (c ∷ cs) (suc at) (suc m) others lt le = ap (λ ds. c ∷ ds) (take_front cs at m others (omega arith) (omega arith))
+  take_front (c ∷ cs) (suc at) (suc m) others lt le =
+      ap (λ ds. c ∷ ds) (take_front cs at m others (omega arith) (omega arith))
 
-  take_first : (cs : List A) (at : ℕ) (a : A) (others : List A) → at < length cs → take (suc at) (in_place cs at (a ∷ others)) ≡ take at cs ++ a ∷ []
+  take_first : (cs : List A) (at : ℕ) (a : A) (others : List A) → at < length cs
+      → take (suc at) (in_place cs at (a ∷ others)) ≡ take at cs ++ a ∷ []
   take_first [] at a others lt = absurd (omega arith)
   take_first (c ∷ cs) zero a others lt = refl
   take_first (c ∷ cs) (suc at) a others lt = ap (λ ds. c ∷ ds) (take_first cs at a others (omega arith))
@@ -38,7 +41,8 @@ module _ {A : Type 0} where
       none : (k : ℕ) → ◌≡◌ {A = List A} (take k []) []
       none zero = refl
       none (suc k) = refl
-  take_two (c ∷ cs) (suc m) (suc n) le = ap (λ ds. c ∷ ds) (take_two cs m n (omega arith) ∙ ap (λ k. take m cs ++ take k (drop m cs)) (fewer n m))
+  take_two (c ∷ cs) (suc m) (suc n) le =
+      ap (λ ds. c ∷ ds) (take_two cs m n (omega arith) ∙ ap (λ k. take m cs ++ take k (drop m cs)) (fewer n m))
     where
       fewer : (n m : ℕ) → n - m ≡ suc n - suc m
       fewer n m = omega arith
@@ -71,7 +75,8 @@ module _ {A : Type 0} where
       omega arith
 
   -- and more sized chunks have more
-  pub has_more : (cs : List (List A)) (m n : ℕ) → AllByRecursion IsSized cs → m < n → n ≤ length cs → length (joined (take m cs)) < length (joined (take n cs))
+  pub has_more : (cs : List (List A)) (m n : ℕ) → AllByRecursion IsSized cs → m < n → n ≤ length cs
+      → length (joined (take m cs)) < length (joined (take n cs))
   has_more cs m zero h lt le = absurd (omega arith)
   has_more [] m (suc n) h lt le = absurd (omega arith)
   has_more (c ∷ cs) zero (suc n) h lt le =
@@ -84,7 +89,9 @@ module _ {A : Type 0} where
       let b = length-append c (joined (take n cs)) in
       omega arith
 
-  pub begins_at : (cs ds : List (List A)) (at n k p : ℕ) → at < length cs → ds ≡ parted cs at n → n ≤ length (get_or cs at []) → k ≡ suc at → length (joined (take at cs)) + n ≡ p → length (joined (take k ds)) ≡ p
+  pub begins_at : (cs ds : List (List A)) (at n k p : ℕ) → at < length cs → ds ≡ parted cs at n
+      → n ≤ length (get_or cs at []) → k ≡ suc at → length (joined (take at cs)) + n ≡ p
+      → length (joined (take k ds)) ≡ p
   begins_at cs ds at n k p lt is le next place =
       let cut = take n (get_or cs at []) in
       let parts = (λ i. joined (take (next i) (is i))) ∙ ap joined (take_first cs at cut (drop n (get_or cs at []) ∷ []) lt) ∙ joined-append (take at cs) (cut ∷ []) ∙ ap (λ es. joined (take at cs) ++ es) (joined-one cut) in
@@ -92,7 +99,8 @@ module _ {A : Type 0} where
       let m = length-take-le n (get_or cs at []) le in
       omega arith
 
-  pub same_front : (cs ds : List (List A)) (at n p : ℕ) → at < length cs → ds ≡ parted cs at n → n < length (get_or cs at []) → length (joined (take at cs)) + n ≡ p
+  pub same_front : (cs ds : List (List A)) (at n p : ℕ) → at < length cs → ds ≡ parted cs at n
+      → n < length (get_or cs at []) → length (joined (take at cs)) + n ≡ p
       → (m : ℕ) → m ≤ length cs → length (joined (take m cs)) ≤ p → take m ds ≡ take m cs
   same_front cs ds at n p lt is inside place m le fits = elim (cases_lt at m) [
     | inl behind ↦
@@ -104,11 +112,15 @@ module _ {A : Type 0} where
 
   -- the chunks between two places have the entries between them
   module _ (cs : List (List A)) (b e from to : ℕ) (order : b ≤ e) (begins : length (joined (take b cs)) ≡ from) (ends : length (joined (take e cs)) ≡ to) where
-    cut_front : (ds : List (List A)) (k n : ℕ) → length (joined (take k ds)) ≡ n → take n (joined ds) ≡ joined (take k ds)
-    cut_front ds k n len = ap (take n) (sym (joined_parts ds k)) ∙ take_at (joined (take k ds)) (joined (drop k ds)) n len
+    cut_front : (ds : List (List A)) (k n : ℕ) → length (joined (take k ds)) ≡ n
+        → take n (joined ds) ≡ joined (take k ds)
+    cut_front ds k n len =
+        ap (take n) (sym (joined_parts ds k)) ∙ take_at (joined (take k ds)) (joined (drop k ds)) n len
 
-    cut_back : (ds : List (List A)) (k n : ℕ) → length (joined (take k ds)) ≡ n → drop n (joined ds) ≡ joined (drop k ds)
-    cut_back ds k n len = ap (drop n) (sym (joined_parts ds k)) ∙ drop_at (joined (take k ds)) (joined (drop k ds)) n len
+    cut_back : (ds : List (List A)) (k n : ℕ) → length (joined (take k ds)) ≡ n
+        → drop n (joined ds) ≡ joined (drop k ds)
+    cut_back ds k n len =
+        ap (drop n) (sym (joined_parts ds k)) ∙ drop_at (joined (take k ds)) (joined (drop k ds)) n len
 
     between : length (joined (take (e - b) (drop b cs))) ≡ to - from
     between =
@@ -116,10 +128,12 @@ module _ {A : Type 0} where
         omega arith
 
     pub joined_slice : joined (slice_range cs b e) ≡ slice_range (joined cs) from to
-    joined_slice = sym (ap (take (to - from)) (cut_back cs b from begins) ∙ cut_front (drop b cs) (e - b) (to - from) between)
+    joined_slice =
+        sym (ap (take (to - from)) (cut_back cs b from begins) ∙ cut_front (drop b cs) (e - b) (to - from) between)
 
     pub joined_rest : joined (remove_range cs b e) ≡ remove_range (joined cs) from to
-    joined_rest = joined-append (take b cs) (drop e cs) ∙ sym (λ i. cut_front cs b from begins i ++ cut_back cs e to ends i)
+    joined_rest =
+        joined-append (take b cs) (drop e cs) ∙ sym (λ i. cut_front cs b from begins i ++ cut_back cs e to ends i)
 
 module _ {K X : Type 0} (R : K → K → Ordering) (cs : List (List (K × X))) (are : AreChunks R cs) (b e from to : ℕ) (begins : length (joined (take b cs)) ≡ from) (ends : length (joined (take e cs)) ≡ to) where
   -- the place that comes first begins no later chunk
@@ -160,7 +174,8 @@ module _ {A : Type 0} where
   in_first (e ∷ c) ys zero lt = refl
   in_first (e ∷ c) ys (suc n) lt = in_first c ys n (omega arith)
 
-  pub get_in : (cs : List (List A)) (at n p : ℕ) (c : List A) → at < length cs → c ≡ get_or cs at c → length (joined (take at cs)) + n ≡ p → n < length (get_or cs at []) → slice_get c n ≡ slice_get (joined cs) p
+  pub get_in : (cs : List (List A)) (at n p : ℕ) (c : List A) → at < length cs → c ≡ get_or cs at c
+      → length (joined (take at cs)) + n ≡ p → n < length (get_or cs at []) → slice_get c n ≡ slice_get (joined cs) p
   get_in cs at n p c lt is place inside =
       let one = same_default cs at [] c lt ∙ sym is in
       let len = ap length one in

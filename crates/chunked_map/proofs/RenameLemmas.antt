@@ -30,13 +30,15 @@ module _ {A : Type 0} (f : A → A) where
   front-at (x ∷ xs) zero d lt = refl
   front-at (x ∷ xs) (suc i) d lt = front-at xs i d (omega arith)
 
-  front-set : (xs : List A) (i : ℕ) (d : A) → i < length xs → set (turned_front i xs) i (f (get_or (turned_front i xs) i d)) ≡ turned_front (suc i) xs
+  front-set : (xs : List A) (i : ℕ) (d : A) → i < length xs
+      → set (turned_front i xs) i (f (get_or (turned_front i xs) i d)) ≡ turned_front (suc i) xs
   front-set [] i d lt = absurd (omega arith)
   front-set (x ∷ xs) zero d lt = refl
   front-set (x ∷ xs) (suc i) d lt = ap (λ ys. f x ∷ ys) (front-set xs i d (omega arith))
 
   -- and is turned in its place
-  pub front-next : (xs now : List A) (i n : ℕ) (d y : A) → i < length xs → n ≡ suc i → now ≡ turned_front i xs → y ≡ f (get_or now i d) → set now i y ≡ turned_front n xs
+  pub front-next : (xs now : List A) (i n : ℕ) (d y : A) → i < length xs → n ≡ suc i → now ≡ turned_front i xs
+      → y ≡ f (get_or now i d) → set now i y ≡ turned_front n xs
   front-next xs now i n d y lt next is new =
       ap (set now i) new
       ∙ ap (λ ys. set ys i (f (get_or ys i d))) is
@@ -64,15 +66,20 @@ module _ {A : Type 0} (f : A → A) where
       (record { some = omega arith; few = omega arith }, sized-turned cs h.1)
 
 module _ {K X : Type 0} (R : K → K → Ordering) (f : K → K) (takes : K → Type 0) (keeps : (x y : K) → takes x → takes y → R x y ≡ Less → R (f x) (f y) ≡ Less) where
-  below-turned : (q : K) (es : List (K × X)) → takes q → AllByRecursion (λ (e : K × X). takes e.0) es → T (below_all R q es) → T (below_all R (f q) (map (with_other f) es))
+  below-turned : (q : K) (es : List (K × X)) → takes q → AllByRecursion (λ (e : K × X). takes e.0) es
+      → T (below_all R q es) → T (below_all R (f q) (map (with_other f) es))
   below-turned q [] t ts h = tt
-  below-turned q (e ∷ es) t ts h = both _ _ (is_less _ (keeps q e.0 t ts.0 (less _ (first _ _ h)))) (below-turned q es t ts.1 (second _ _ h))
+  below-turned q (e ∷ es) t ts h =
+      both _ _ (is_less _ (keeps q e.0 t ts.0 (less _ (first _ _ h)))) (below-turned q es t ts.1 (second _ _ h))
 
-  pub sorted-turned : (es : List (K × X)) → AllByRecursion (λ (e : K × X). takes e.0) es → T (is_sorted R es) → T (is_sorted R (map (with_other f) es))
+  pub sorted-turned : (es : List (K × X)) → AllByRecursion (λ (e : K × X). takes e.0) es → T (is_sorted R es)
+      → T (is_sorted R (map (with_other f) es))
   sorted-turned [] ts h = tt
-  sorted-turned (e ∷ es) ts h = both _ _ (below-turned e.0 es ts.0 ts.1 (first _ _ h)) (sorted-turned es ts.1 (second _ _ h))
+  sorted-turned (e ∷ es) ts h =
+      both _ _ (below-turned e.0 es ts.0 ts.1 (first _ _ h)) (sorted-turned es ts.1 (second _ _ h))
 
-  pub chunks-turned : (cs : List (List (K × X))) → AllByRecursion (λ (e : K × X). takes e.0) (joined cs) → AreChunks R cs → AreChunks R (map (map (with_other f)) cs)
+  pub chunks-turned : (cs : List (List (K × X))) → AllByRecursion (λ (e : K × X). takes e.0) (joined cs)
+      → AreChunks R cs → AreChunks R (map (map (with_other f)) cs)
   chunks-turned cs ts are =
       let count = are.count in
       let same = length-map cs (map (with_other f)) in
@@ -83,9 +90,12 @@ module _ {K X : Type 0} (R : K → K → Ordering) (f : K → K) (takes : K → 
       }
 
   -- what is taken of the first chunk, and of the others
-  pub taken-first : (c : List (K × X)) (cs : List (List (K × X))) → AllByRecursion (λ (e : K × X). takes e.0) (joined (c ∷ cs)) → AllByRecursion (λ (e : K × X). takes e.0) c
+  pub taken-first : (c : List (K × X)) (cs : List (List (K × X)))
+      → AllByRecursion (λ (e : K × X). takes e.0) (joined (c ∷ cs)) → AllByRecursion (λ (e : K × X). takes e.0) c
   taken-first [] cs h = tt
   taken-first (e ∷ c) cs h = (h.0, taken-first c cs h.1)
 
-  pub taken-rest : (c : List (K × X)) (cs : List (List (K × X))) → AllByRecursion (λ (e : K × X). takes e.0) (joined (c ∷ cs)) → AllByRecursion (λ (e : K × X). takes e.0) (joined cs)
+  pub taken-rest : (c : List (K × X)) (cs : List (List (K × X)))
+      → AllByRecursion (λ (e : K × X). takes e.0) (joined (c ∷ cs))
+      → AllByRecursion (λ (e : K × X). takes e.0) (joined cs)
   taken-rest c cs h = all_back (λ (e : K × X). takes e.0) c (joined cs) h

@@ -18,26 +18,30 @@ use Rattle.chunked_map.proofs.ChunkLemmas.{before_more, sorted_here}
 use Rattle.chunked_map.proofs.CostLemmas.{greater_from}
 
 module _ {K X : Type 0} (R : K → K → Ordering) (o : IsTotalOrder R) (q : K) where
-  smaller_all : (c : List (K × X)) → 0 < length c → T (is_sorted R c) → ((d : K × X) → R (get_or c (length c - 1) d).0 q ≡ Less) → T (all_before R q c)
+  smaller_all : (c : List (K × X)) → 0 < length c → T (is_sorted R c)
+      → ((d : K × X) → R (get_or c (length c - 1) d).0 q ≡ Less) → T (all_before R q c)
   smaller_all [] some h last = absurd (omega arith)
   smaller_all (e ∷ es) some h last =
       let end : length (e ∷ es) - 1 ≡ length es = omega arith in
       all_before-last R o q (e ∷ es) (length es) e refl h (is_less _ (sym (ap (λ n. R (get_or (e ∷ es) n e).0 q) end) ∙ last e))
 
-  larger_rest : (c es : List (K × X)) → 0 < length c → T (is_sorted R (c ++ es)) → ((d : K × X) → is_lt (R (get_or c (length c - 1) d).0 q) ≡ false) → T (below_all R q es)
+  larger_rest : (c es : List (K × X)) → 0 < length c → T (is_sorted R (c ++ es))
+      → ((d : K × X) → is_lt (R (get_or c (length c - 1) d).0 q) ≡ false) → T (below_all R q es)
   larger_rest [] es some h last = absurd (omega arith)
   larger_rest (e ∷ c) es some h last =
       let end : length (e ∷ c) - 1 ≡ length c = omega arith in
       below_all-last R o q (e ∷ c) es (length c) e refl h (sym (ap (λ n. is_lt (R (get_or (e ∷ c) n e).0 q)) end) ∙ last e)
 
   -- before a key that ties stand only smaller ones
-  smaller_front : (xs c : List (K × X)) (n : ℕ) (d : K × X) → n < length c → T (is_sorted R (xs ++ c)) → R (get_or c n d).0 q ≡ Equal → T (all_before R q xs)
+  smaller_front : (xs c : List (K × X)) (n : ℕ) (d : K × X) → n < length c → T (is_sorted R (xs ++ c))
+      → R (get_or c n d).0 q ≡ Equal → T (all_before R q xs)
   smaller_front [] c n d lt h ties = tt
   smaller_front (x ∷ xs) c n d lt h ties =
       let nearer = below_at R x.0 c (below_all-right R x.0 xs c (first _ _ h)) n d lt in
       both _ _ (is_less _ (sym (alike_right o (get_or c n d).0 q x.0 ties) ∙ nearer)) (smaller_front xs c n d lt (second _ _ h) ties)
 
-  tied_front : (xs c : List (K × X)) → 0 < length c → T (is_sorted R (xs ++ c)) → ((d : K × X) → R (get_or c (length c - 1) d).0 q ≡ Equal) → T (all_before R q xs)
+  tied_front : (xs c : List (K × X)) → 0 < length c → T (is_sorted R (xs ++ c))
+      → ((d : K × X) → R (get_or c (length c - 1) d).0 q ≡ Equal) → T (all_before R q xs)
   tied_front xs [] some h ties = absurd (omega arith)
   tied_front xs (e ∷ es) some h ties = smaller_front xs (e ∷ es) (length (e ∷ es) - 1) e (omega arith) h (ties e)
 
@@ -60,10 +64,14 @@ module _ {K X : Type 0} (R : K → K → Ordering) (o : IsTotalOrder R) (q : K) 
     module _ (c : List (K × X)) (is : c ≡ get_or cs at c) (r : Ordering) (last : (d : K × X) → R (get_or c (length c - 1) d).0 q ≡ r) where
       -- one behind the last key is behind the chunk
       pub next_before : r ≡ Less → (n : ℕ) → n ≡ suc at → T (all_before R q (joined (take n cs)))
-      next_before less n next = before_more R q o cs are at c lt is n next (smaller_all c (some_here c is) (sorted_chunk c is) (λ d. last d ∙ less))
+      next_before less n next =
+          before_more R q o cs are at c lt is n next (smaller_all c (some_here c is) (sorted_chunk c is) (λ d. last d ∙ less))
 
       pub late_here : r ≡ Greater → IsBeforeLast R q (get_or cs at [])
-      late_here more = record { late = λ d. subst (λ (es : List (K × X)). R (get_or es (length es - 1) d).0 q ≡ Greater) (is ∙ same_default cs at c [] lt) (last d ∙ more) }
+      late_here more =
+          record {
+            late = λ d. subst (λ (es : List (K × X)). R (get_or es (length es - 1) d).0 q ≡ Greater) (is ∙ same_default cs at c [] lt) (last d ∙ more);
+          }
 
       -- one that ties stands there
       pub home_tied : r ≡ Equal → IsChunkOf R cs q at
@@ -89,7 +97,12 @@ module _ {K X : Type 0} (R : K → K → Ordering) (o : IsTotalOrder R) (q : K) 
           greater_from R o q (get_or cs at []) 0 k e d (subst (λ es. T (is_sorted R es)) here (sorted_chunk c is)) within (omega arith) first_here
 
       pub gap_first : IsGap R (get_or cs at []) q 0
-      gap_first = record { in_range = omega arith; before = λ k d early. absurd (omega (arith, early)); after = λ k d late within. behind_all k d within }
+      gap_first =
+          record {
+            in_range = omega arith;
+            before = λ k d early. absurd (omega (arith, early));
+            after = λ k d late within. behind_all k d within;
+          }
 
       pub late_first : IsBeforeLast R q (get_or cs at [])
       late_first =

@@ -10,38 +10,45 @@ use Rattle.chunked_map.specs.Chunks.{joined, AreChunks, IsChunkOf, all_before, i
 use Rattle.chunked_map.proofs.JoinLemmas.{joined-in_place, joined_at, sized-in_place, sized_at}
 
 module _ {A : Type 0} where
-  pub take_same : (cs : List A) (at : ℕ) (others : List A) → at < length cs → take at (in_place cs at others) ≡ take at cs
+  pub take_same : (cs : List A) (at : ℕ) (others : List A) → at < length cs
+      → take at (in_place cs at others) ≡ take at cs
   take_same [] at others lt = absurd (omega arith)
   take_same (c ∷ cs) zero others lt = refl
   take_same (c ∷ cs) (suc at) others lt = ap (λ ds. c ∷ ds) (take_same cs at others (omega arith))
 
-  pub drop_two : (cs : List A) (at : ℕ) (a b : A) → at < length cs → drop (suc (suc at)) (in_place cs at (a ∷ b ∷ [])) ≡ drop (suc at) cs
+  pub drop_two : (cs : List A) (at : ℕ) (a b : A) → at < length cs
+      → drop (suc (suc at)) (in_place cs at (a ∷ b ∷ [])) ≡ drop (suc at) cs
   drop_two [] at a b lt = absurd (omega arith)
   drop_two (c ∷ cs) zero a b lt = refl
   drop_two (c ∷ cs) (suc at) a b lt = drop_two cs at a b (omega arith)
 
-  pub first_of : (cs : List A) (at : ℕ) (a : A) (others : List A) (d : A) → at < length cs → get_or (in_place cs at (a ∷ others)) at d ≡ a
+  pub first_of : (cs : List A) (at : ℕ) (a : A) (others : List A) (d : A) → at < length cs
+      → get_or (in_place cs at (a ∷ others)) at d ≡ a
   first_of [] at a others d lt = absurd (omega arith)
   first_of (c ∷ cs) zero a others d lt = refl
   first_of (c ∷ cs) (suc at) a others d lt = first_of cs at a others d (omega arith)
 
-  pub second_of : (cs : List A) (at : ℕ) (a b : A) (d : A) → at < length cs → get_or (in_place cs at (a ∷ b ∷ [])) (suc at) d ≡ b
+  pub second_of : (cs : List A) (at : ℕ) (a b : A) (d : A) → at < length cs
+      → get_or (in_place cs at (a ∷ b ∷ [])) (suc at) d ≡ b
   second_of [] at a b d lt = absurd (omega arith)
   second_of (c ∷ cs) zero a b d lt = refl
   second_of (c ∷ cs) (suc at) a b d lt = second_of cs at a b d (omega arith)
 
-  pub length_two : (cs : List A) (at : ℕ) (a b : A) → at < length cs → length (in_place cs at (a ∷ b ∷ [])) ≡ suc (length cs)
+  pub length_two : (cs : List A) (at : ℕ) (a b : A) → at < length cs
+      → length (in_place cs at (a ∷ b ∷ [])) ≡ suc (length cs)
   length_two [] at a b lt = absurd (omega arith)
   length_two (c ∷ cs) zero a b lt = refl
   length_two (c ∷ cs) (suc at) a b lt = ap suc (length_two cs at a b (omega arith))
 
-  two : (cs : List A) (at : ℕ) (a b : A) → at < length cs → insert (set cs at a) (suc at) b ≡ in_place cs at (a ∷ b ∷ [])
+  two : (cs : List A) (at : ℕ) (a b : A) → at < length cs
+      → insert (set cs at a) (suc at) b ≡ in_place cs at (a ∷ b ∷ [])
   two [] at a b lt = absurd (omega arith)
   two (c ∷ cs) zero a b lt = refl
   two (c ∷ cs) (suc at) a b lt = ap (λ ds. c ∷ ds) (two cs at a b (omega arith))
 
 -- the back of a chunk, taken out of it and put behind what is left
-pub parted_is : {A : Type 0} (cs : List (List A)) (at k : ℕ) (c a b : List A) (n : ℕ) → at < length cs → c ≡ get_or cs at c → n ≡ length (get_or cs at [])
+pub parted_is : {A : Type 0} (cs : List (List A)) (at k : ℕ) (c a b : List A) (n : ℕ) → at < length cs
+    → c ≡ get_or cs at c → n ≡ length (get_or cs at [])
     → a ≡ remove_range c k n → b ≡ slice_range c k n → insert (set cs at a) (at + 1) b ≡ parted cs at k
 parted_is cs at k c a b n lt is len front back =
     let one = is ∙ same_default cs at c [] lt in
@@ -63,7 +70,8 @@ module _ {K X : Type 0} (R : K → K → Ordering) (cs : List (List (K × X))) (
       ∙ ap (λ es. joined (take at cs) ++ (es ++ joined (drop (suc at) cs))) (ap (λ es. take n cut_one ++ es) (append-nil (drop n cut_one)) ∙ take-append-drop n cut_one)
       ∙ sym (joined_at cs at [] lt)
 
-  pub parted_are : AreChunks R cs → (n : ℕ) → 0 < n → n < length cut_one → length cs < 2 ^ 57 → AreChunks R (parted cs at n)
+  pub parted_are : AreChunks R cs → (n : ℕ) → 0 < n → n < length cut_one → length cs < 2 ^ 57
+      → AreChunks R (parted cs at n)
   parted_are are n some fewer room =
       let few = (sized_at cs at [] lt are.sizes).few in
       let front = length-take-le n cut_one (omega arith) in
@@ -93,7 +101,8 @@ module _ {K X : Type 0} (R : K → K → Ordering) (cs : List (List (K × X))) (
       behind = behind;
     }
 
-    pub back_place : T (all_before R q (joined (take (suc at) (parted cs at 32)))) → IsChunkOf R (parted cs at 32) q (suc at)
+    pub back_place : T (all_before R q (joined (take (suc at) (parted cs at 32))))
+        → IsChunkOf R (parted cs at 32) q (suc at)
     back_place before = record {
       within = let n = length_two cs at (take 32 cut_one) (drop 32 cut_one) lt in omega arith;
       before = before;

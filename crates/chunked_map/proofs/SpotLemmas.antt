@@ -19,7 +19,8 @@ module _ {K X : Type 0} (R : K → K → Ordering) (o : IsTotalOrder R) (q : K) 
   itself lt = same_default cs at [] (get_or cs at []) lt
 
   -- the value at the place that was found
-  pub found_spot : AreChunks R cs → (r : Result ℕ ℕ) (p : ℕ) → r ≡ Ok p → IfOk r (λ place. at < length cs) → IfOk r (λ place. IsPlace R (get_or cs at []) q place)
+  pub found_spot : AreChunks R cs → (r : Result ℕ ℕ) (p : ℕ) → r ≡ Ok p → IfOk r (λ place. at < length cs)
+      → IfOk r (λ place. IsPlace R (get_or cs at []) q place)
       → (v : X) → ((d : K × X) → v ≡ (get_or (get_or cs at []) p d).1) → Some v ≡ find R q (joined cs)
   found_spot are r p is within there v value =
       let lt : at < length cs = subst (λ r. IfOk r (λ place. at < length cs)) is within in
@@ -27,7 +28,8 @@ module _ {K X : Type 0} (R : K → K → Ordering) (o : IsTotalOrder R) (q : K) 
       let sorted : T (is_sorted R (get_or cs at [])) = sorted_chunk R o q cs are at lt (get_or cs at []) (itself lt) in
       with_first (get_or cs at []) (omega (arith, place.in_range)) (λ d. ap Some (value d) ∙ sym (find-place R o q (get_or cs at []) sorted p d place.in_range (place.tied d)) ∙ find_in R o q cs at (get_or cs at []) home lt (itself lt))
     where
-      with_first : (es : List (K × X)) → 0 < length es → ((d : K × X) → Some v ≡ find R q (joined cs)) → Some v ≡ find R q (joined cs)
+      with_first : (es : List (K × X)) → 0 < length es → ((d : K × X) → Some v ≡ find R q (joined cs))
+          → Some v ≡ find R q (joined cs)
       with_first [] some h = absurd (omega arith)
       with_first (e ∷ es) some h = h e
 

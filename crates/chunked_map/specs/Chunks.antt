@@ -47,4 +47,5 @@ in_place chunks at others = take at chunks ++ (others ++ drop (suc at) chunks)
 
 -- chunks with the one at a place cut in two, behind its first n entries
 abbrev pub parted : {A : Type 0} → List (List A) → ℕ → ℕ → List (List A)
-parted chunks at n = in_place chunks at (take n (slice_index_or chunks at []) ∷ drop n (slice_index_or chunks at []) ∷ [])
+parted chunks at n =
+    in_place chunks at (take n (slice_index_or chunks at []) ∷ drop n (slice_index_or chunks at []) ∷ [])

@@ -19,7 +19,8 @@ const MOST_CHUNKS: usize = 1 << 57;
 /// All keys of a chunk are before a key.
 fn is_past<K: Ord, V>(chunk: &Chunk<K, V>, key: &K) -> bool
     ensures yes { T result → T (all_before K.cmp key.now chunk.now) }
-    ensures no { T (not result) → (behind : _) → T (is_sorted K.cmp (chunk.now ++ behind)) → T (below_all K.cmp key.now behind) }
+    ensures no { T (not result) → (behind : _) → T (is_sorted K.cmp (chunk.now ++ behind))
+        → T (below_all K.cmp key.now behind) }
 {
     match chunk.entries().last() {
         Some(last) => last.0.cmp(key).is_lt(),

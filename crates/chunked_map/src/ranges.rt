@@ -55,7 +55,8 @@ pub fn boundary<K: Ord + Drop, V: Copied<K> + Drop>(
     ensures chunks { AreChunks K.cmp chunks.new.items }
     ensures within { IfOk result (λ at. at ≤ length chunks.new.items) }
     ensures begins { IfOk result (λ at. length (joined (take at chunks.new.items)) ≡ place) }
-    ensures front { (m : _) → m ≤ length chunks.old.items → length (joined (take m chunks.old.items)) ≤ place → take m chunks.new.items ≡ take m chunks.old.items }
+    ensures front { (m : _) → m ≤ length chunks.old.items → length (joined (take m chunks.old.items)) ≤ place
+        → take m chunks.new.items ≡ take m chunks.old.items }
 {
     let (at, left) = place_in(chunks, place);
     if left == 0 {

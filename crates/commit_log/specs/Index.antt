@@ -7,4 +7,5 @@ abbrev pub last_of : List ℕ → ℕ → ℕ
 last_of last mount = slice_index_or last mount 0
 
 abbrev pub IsIndex : List Commit → List ℕ → Type 0
-IsIndex commits last = (mount at : ℕ) (commit : Commit) → slice_get commits at ≡ Some commit → touches mount commit ≡ true → at < last_of last mount
+IsIndex commits last =
+    (mount at : ℕ) (commit : Commit) → slice_get commits at ≡ Some commit → touches mount commit ≡ true → at < last_of last mount

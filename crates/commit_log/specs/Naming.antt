@@ -14,12 +14,14 @@ use Rattle.model_history.specs.History.{Commit}
 -- what a commit leaves at a name that it changes, once for each change of it: its number, and the handle that made it
 abbrev pub marks_of : Name → ℕ × ℕ → List Change → List (ℕ × ℕ)
 marks_of name mark [] = []
-marks_of name mark (change ∷ changes) = if name_eq name change.0 then mark ∷ marks_of name mark changes else marks_of name mark changes
+marks_of name mark (change ∷ changes) =
+    if name_eq name change.0 then mark ∷ marks_of name mark changes else marks_of name mark changes
 
 -- what some commits leave there, numbered from a number on
 abbrev pub marks_in : Name → ℕ → List Commit → List (ℕ × ℕ)
 marks_in name number [] = []
-marks_in name number (commit ∷ commits) = marks_of name (number, commit.handle) commit.changes ++ marks_in name (number + 1) commits
+marks_in name number (commit ∷ commits) =
+    marks_of name (number, commit.handle) commit.changes ++ marks_in name (number + 1) commits
 
 -- another handle left it, behind a front
 abbrev pub is_later_of_others : ℕ → ℕ → ℕ × ℕ → Bool
@@ -28,7 +30,8 @@ is_later_of_others front handle mark = nat_lt front mark.0 && not (nat_eq handle
 -- the number of the first mark that another handle left behind a front
 abbrev pub first_mark : List (ℕ × ℕ) → ℕ → ℕ → Option ℕ
 first_mark [] front handle = None
-first_mark (mark ∷ marks) front handle = if is_later_of_others front handle mark then Some mark.0 else first_mark marks front handle
+first_mark (mark ∷ marks) front handle =
+    if is_later_of_others front handle mark then Some mark.0 else first_mark marks front handle
 
 -- no number falls
 abbrev pub AreRising : List (ℕ × ℕ) → Type 0

@@ -72,7 +72,8 @@ impl History {
 
     /// The commit of a number.
     pub fn commit(&self, number: u64) -> Option<&Commit>
-        ensures { option_map (λ commit. commit_of commit.now) result ≡ (if number == 0 then None else slice_get self.now.commits (number - 1)) }
+        ensures { option_map (λ commit. commit_of commit.now) result
+            ≡ (if number == 0 then None else slice_get self.now.commits (number - 1)) }
     {
         if number == 0 {
             return None;

@@ -39,7 +39,8 @@ fn cover_one(last: &mut Vec<u64>, mount: u32) -> Result<(), Memory>
 /// Gives some mounts the number of a commit.
 pub fn mark(last: &mut [u64], mounts: &[u32], number: u64)
     requires { All (λ mount. mount < length last.old) mounts.now }
-    ensures { (mount : ℕ) → last_of last.new mount ≡ (if is_among mounts.now mount then number else last_of last.old mount) }
+    ensures { (mount : ℕ)
+        → last_of last.new mount ≡ (if is_among mounts.now mount then number else last_of last.old mount) }
 {
     for mount in mounts {
         last[*mount as usize] = number;

@@ -19,6 +19,8 @@ IsNumberOfNone history number = (number ≡ 0) ⊎ (length history < number)
 
 -- why it has none: there is no such commit, or a later one changes a name of it. Of want of memory nothing is said
 abbrev pub IsRefusal : List Commit → ℕ → InverseFault → Type 0
-IsRefusal history number (NoCommit told front) = IsNumberOfNone history number × (told ≡ number) × (front ≡ length history)
-IsRefusal history number (Overtaken name by front) = (overtaken history number ≡ Some (by, name)) × (front ≡ length history)
+IsRefusal history number (NoCommit told front) =
+    IsNumberOfNone history number × (told ≡ number) × (front ≡ length history)
+IsRefusal history number (Overtaken name by front) =
+    (overtaken history number ≡ Some (by, name)) × (front ≡ length history)
 IsRefusal history number Memory = ⊤

@@ -31,7 +31,8 @@ pub fn first_with<'a>(
     commits: &'a [Commit],
     number: usize,
 ) -> Option<(u64, &'a KeyName)>
-    ensures { option_map (λ found. (found.0, found.1.now)) result ≡ first_with (λ name. is_some (find name_cmp name names.now)) (number + 1) (drop number (over commit_of commits.now)) }
+    ensures { option_map (λ found. (found.0, found.1.now)) result
+        ≡ first_with (λ name. is_some (find name_cmp name names.now)) (number + 1) (drop number (over commit_of commits.now)) }
 {
     for i in number..commits.len() {
         if let Some(name) = first_name(names, commits[i].changes.as_slice()) {
@@ -43,7 +44,8 @@ pub fn first_with<'a>(
 
 /// The first name of some changes that is one of these.
 fn first_name<'a>(names: &SortedMap<KeyName, ()>, changes: &'a [Change]) -> Option<&'a KeyName>
-    ensures { option_copied result ≡ first_name (λ name. is_some (find name_cmp name names.now)) (over change_of changes.now) }
+    ensures { option_copied result
+        ≡ first_name (λ name. is_some (find name_cmp name names.now)) (over change_of changes.now) }
 {
     for change in changes {
         if has(names, &change.name) {

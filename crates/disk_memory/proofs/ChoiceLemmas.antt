@@ -26,18 +26,24 @@ torn_byte-same : (number former byte : ℕ) → Some former ≡ Some byte → to
 torn_byte-same number former byte same = grind (arith, nat_tests)
 
 -- as many bytes are torn as were written
-pub length-torn_bytes : (choice : Choice) (place : ℕ) (former bytes : List ℕ) → length (torn_bytes choice place former bytes) ≡ length bytes
+pub length-torn_bytes : (choice : Choice) (place : ℕ) (former bytes : List ℕ)
+    → length (torn_bytes choice place former bytes) ≡ length bytes
 length-torn_bytes choice place former [] = refl
-length-torn_bytes choice place former (byte ∷ bytes) = ap suc (length-torn_bytes choice (place + 1) (drop 1 former) bytes)
+length-torn_bytes choice place former (byte ∷ bytes) =
+    ap suc (length-torn_bytes choice (place + 1) (drop 1 former) bytes)
 
 -- torn bytes that were written over with themselves
-torn_bytes-same : (choice : Choice) (place : ℕ) (former bytes : List ℕ) (i : ℕ) → i < length bytes → slice_get former i ≡ slice_get bytes i
+torn_bytes-same : (choice : Choice) (place : ℕ) (former bytes : List ℕ) (i : ℕ) → i < length bytes
+    → slice_get former i ≡ slice_get bytes i
     → slice_get (torn_bytes choice place former bytes) i ≡ slice_get former i
 torn_bytes-same choice place former [] i within same = absurd (omega arith)
 torn_bytes-same choice place [] (byte ∷ bytes) zero within same = absurd (none_is_not_some byte same)
-torn_bytes-same choice place (x ∷ former) (byte ∷ bytes) zero within same = ap Some (torn_byte-same (drawn choice place) x byte same)
-torn_bytes-same choice place [] (byte ∷ bytes) (suc i) within same = torn_bytes-same choice (place + 1) [] bytes i (omega arith) same
-torn_bytes-same choice place (x ∷ former) (byte ∷ bytes) (suc i) within same = torn_bytes-same choice (place + 1) former bytes i (omega arith) same
+torn_bytes-same choice place (x ∷ former) (byte ∷ bytes) zero within same =
+    ap Some (torn_byte-same (drawn choice place) x byte same)
+torn_bytes-same choice place [] (byte ∷ bytes) (suc i) within same =
+    torn_bytes-same choice (place + 1) [] bytes i (omega arith) same
+torn_bytes-same choice place (x ∷ former) (byte ∷ bytes) (suc i) within same =
+    torn_bytes-same choice (place + 1) former bytes i (omega arith) same
 
 -- two numbers in order
 -- a write of fewer bytes, which are any but where they were written over with themselves
@@ -50,7 +56,9 @@ IsTornWrite-piece at bytes piece former within fewer kept =
     let reach : at + length bytes ≡ at + length piece + more = omega arith in
     record {
       front = whole.front;
-      back = ap (λ n. drop n (written former at piece)) reach ∙ sym (drop-drop more (at + length piece) (written former at piece)) ∙ ap (drop more) whole.back
+      back =
+          ap (λ n. drop n (written former at piece)) reach
+          ∙ sym (drop-drop more (at + length piece) (written former at piece)) ∙ ap (drop more) whole.back
           ∙ drop-drop more (at + length piece) former ∙ sym (ap (λ n. drop n former) reach);
       no_shorter = whole.no_shorter;
       no_longer = omega (arith, whole.no_longer);
@@ -61,7 +69,8 @@ IsTornWrite-piece at bytes piece former within fewer kept =
     }
 
 -- a torn write
-IsTornWrite-torn : (choice : Choice) (at : ℕ) (bytes former : List ℕ) → at ≤ length former → IsTornWrite at bytes former (torn_write choice at bytes former)
+IsTornWrite-torn : (choice : Choice) (at : ℕ) (bytes former : List ℕ) → at ≤ length former
+    → IsTornWrite at bytes former (torn_write choice at bytes former)
 IsTornWrite-torn choice at bytes former within =
     let kept = kept_of_write choice at (length bytes) (length former) in
     let count = length-torn_bytes choice at (drop at former) (take kept bytes) in
@@ -73,7 +82,8 @@ IsTornWrite-torn choice at bytes former within =
     torn_bytes-same choice at (drop at former) (take kept bytes) i fewer (there ∙ was ∙ sym here) ∙ there)
 
 -- a cut that leaves some of the bytes past its length
-IsTornCut-end : (new_length : ℕ) (end former : List ℕ) → length end ≤ length former - new_length → IsTornCut new_length former (take new_length former ++ end)
+IsTornCut-end : (new_length : ℕ) (end former : List ℕ) → length end ≤ length former - new_length
+    → IsTornCut new_length former (take new_length former ++ end)
 IsTornCut-end new_length end former few =
     let there = length-take new_length former in
     let both = length-append (take new_length former) end in
@@ -82,7 +92,9 @@ IsTornCut-end new_length end former few =
         | inl within ↦ take_at (take new_length former) end new_length (omega (arith, there))
         | inr past ↦
             let none = nil_from_length end (omega arith) in
-            ap (λ e. take new_length (take new_length former ++ e)) none ∙ ap (take new_length) (append-nil (take new_length former)) ∙ take-take new_length new_length former (omega arith)
+            ap (λ e. take new_length (take new_length former ++ e)) none
+            ∙ ap (take new_length) (append-nil (take new_length former))
+            ∙ take-take new_length new_length former (omega arith)
       ];
       no_shorter = omega (arith, there, both);
       no_longer = omega (arith, there, both);
@@ -93,30 +105,37 @@ below : (n most : ℕ) → n % (most + 1) ≤ most
 below n most = omega arith
 
 -- a torn cut
-IsTornCut-torn : (choice : Choice) (new_length : ℕ) (former : List ℕ) → IsTornCut new_length former (torn_cut choice new_length former)
+IsTornCut-torn : (choice : Choice) (new_length : ℕ) (former : List ℕ)
+    → IsTornCut new_length former (torn_cut choice new_length former)
 IsTornCut-torn choice new_length former =
     let kept = kept_of_cut choice new_length (length former) in
     let zeros = replicate kept 0 in
     IsTornCut-end new_length (torn_bytes choice new_length (drop new_length former) zeros) former
     (omega (arith, length-torn_bytes choice new_length (drop new_length former) zeros, length-replicate {A = ℕ} kept 0, below (drawn choice new_length) (length former - new_length)))
 
-write_by_way-torn : (w : Way) (choice : Choice) (at : ℕ) (bytes former : List ℕ) → at ≤ length former → IsTornWrite at bytes former (write_by_way w choice at bytes former)
+write_by_way-torn : (w : Way) (choice : Choice) (at : ℕ) (bytes former : List ℕ) → at ≤ length former
+    → IsTornWrite at bytes former (write_by_way w choice at bytes former)
 write_by_way-torn Out choice at bytes former within = IsTornWrite-none former at bytes
 write_by_way-torn Whole choice at bytes former within = IsTornWrite-whole former at bytes within
 write_by_way-torn Torn choice at bytes former within = IsTornWrite-torn choice at bytes former within
 
-left_of_write-torn : (choice : Choice) (at : ℕ) (bytes former : List ℕ) (b : Bool) → (b ≡ true → at ≤ length former) → IsTornWrite at bytes former (cond b (write_by_way (way choice) choice at bytes former) former)
-left_of_write-torn choice at bytes former true within = write_by_way-torn (way choice) choice at bytes former (within refl)
+left_of_write-torn : (choice : Choice) (at : ℕ) (bytes former : List ℕ) (b : Bool) → (b ≡ true → at ≤ length former)
+    → IsTornWrite at bytes former (cond b (write_by_way (way choice) choice at bytes former) former)
+left_of_write-torn choice at bytes former true within =
+    write_by_way-torn (way choice) choice at bytes former (within refl)
 left_of_write-torn choice at bytes former false within = IsTornWrite-none former at bytes
 
-cut_by_way-torn : (w : Way) (choice : Choice) (new_length : ℕ) (former : List ℕ) → IsTornCut new_length former (cut_by_way w choice new_length former)
+cut_by_way-torn : (w : Way) (choice : Choice) (new_length : ℕ) (former : List ℕ)
+    → IsTornCut new_length former (cut_by_way w choice new_length former)
 cut_by_way-torn Out choice new_length former = IsTornCut-none new_length former
 cut_by_way-torn Whole choice new_length former = IsTornCut-whole new_length former
 cut_by_way-torn Torn choice new_length former = IsTornCut-torn choice new_length former
 
 -- what is chosen of a step may be left behind it
-left_of_step-leaves : (choice : Choice) (step : Step) (seen former : List ℕ) → Leaves step seen former (left_of_step choice step seen former)
-left_of_step-leaves choice (Wrote at bytes) seen former = left_of_write-torn choice at bytes former (nat_le at (length former)) (leb-true at (length former))
+left_of_step-leaves : (choice : Choice) (step : Step) (seen former : List ℕ)
+    → Leaves step seen former (left_of_step choice step seen former)
+left_of_step-leaves choice (Wrote at bytes) seen former =
+    left_of_write-torn choice at bytes former (nat_le at (length former)) (leb-true at (length former))
 left_of_step-leaves choice (Cut new_length) seen former = cut_by_way-torn (way choice) choice new_length former
 left_of_step-leaves choice Synced seen former = refl
 
@@ -125,13 +144,15 @@ one_way true bytes = refl
 one_way false bytes = refl
 
 -- 0 chooses what is sure behind a step
-left_of_step-sure : (count : ℕ) (step : Step) (seen former : List ℕ) → left_of_step (record { number = 0; step = count }) step seen former ≡ sure_after step seen former
+left_of_step-sure : (count : ℕ) (step : Step) (seen former : List ℕ)
+    → left_of_step (record { number = 0; step = count }) step seen former ≡ sure_after step seen former
 left_of_step-sure count (Wrote at bytes) seen former = one_way (nat_le at (length former)) former
 left_of_step-sure count (Cut new_length) seen former = refl
 left_of_step-sure count Synced seen former = refl
 
 -- 1 chooses what a read gives behind a step
-left_of_step-whole : (count : ℕ) (step : Step) (seen : List ℕ) → left_of_step (record { number = 1; step = count }) step seen seen ≡ after seen step
+left_of_step-whole : (count : ℕ) (step : Step) (seen : List ℕ)
+    → left_of_step (record { number = 1; step = count }) step seen seen ≡ after seen step
 left_of_step-whole count (Wrote at bytes) seen = refl
 left_of_step-whole count (Cut new_length) seen = refl
 left_of_step-whole count Synced seen = refl
@@ -142,7 +163,8 @@ either_way P there else_there true = there
 either_way P there else_there false = else_there
 
 -- what is chosen behind all changes may be left behind the steps of the file
-pub left_along-leaves : (number : ℕ) (file : List ℕ) (count : ℕ) (seen former : List ℕ) (past : List Change) → LeavesAfter seen former (steps_of file past) (left_along number file count seen former past)
+pub left_along-leaves : (number : ℕ) (file : List ℕ) (count : ℕ) (seen former : List ℕ) (past : List Change)
+    → LeavesAfter seen former (steps_of file past) (left_along number file count seen former past)
 left_along-leaves number file count seen former [] = refl
 left_along-leaves number file count seen former (change ∷ rest) =
     let next = left_of_step (record { number = number; step = count }) change.step seen former in
@@ -152,7 +174,8 @@ left_along-leaves number file count seen former (change ∷ rest) =
     (left_along-leaves number file (count + 1) seen former rest) (bytes_eq change.file file)
 
 -- 0 chooses what was synced
-pub left_along-sure : (file : List ℕ) (count : ℕ) (seen sure : List ℕ) (past : List Change) → left_along 0 file count seen sure past ≡ synced seen sure (steps_of file past)
+pub left_along-sure : (file : List ℕ) (count : ℕ) (seen sure : List ℕ) (past : List Change)
+    → left_along 0 file count seen sure past ≡ synced seen sure (steps_of file past)
 left_along-sure file count seen sure [] = refl
 left_along-sure file count seen sure (change ∷ rest) =
     let next = left_of_step (record { number = 0; step = count }) change.step seen sure in
@@ -163,7 +186,8 @@ left_along-sure file count seen sure (change ∷ rest) =
     (left_along-sure file (count + 1) seen sure rest) (bytes_eq change.file file)
 
 -- 1 chooses what a read gives
-pub left_along-whole : (file : List ℕ) (count : ℕ) (seen : List ℕ) (past : List Change) → left_along 1 file count seen seen past ≡ after_all seen (steps_of file past)
+pub left_along-whole : (file : List ℕ) (count : ℕ) (seen : List ℕ) (past : List Change)
+    → left_along 1 file count seen seen past ≡ after_all seen (steps_of file past)
 left_along-whole file count seen [] = refl
 left_along-whole file count seen (change ∷ rest) =
     let next = left_of_step (record { number = 1; step = count }) change.step seen seen in
@@ -174,7 +198,8 @@ left_along-whole file count seen (change ∷ rest) =
     (left_along-whole file (count + 1) seen rest) (bytes_eq change.file file)
 
 -- the crash goes on over the change that comes next
-pub left_along-push : (number : ℕ) (file : List ℕ) (count next : ℕ) (seen left : List ℕ) (past : List Change) (change : Change) → next ≡ count + length past
+pub left_along-push : (number : ℕ) (file : List ℕ) (count next : ℕ) (seen left : List ℕ) (past : List Change)
+    (change : Change) → next ≡ count + length past
     → left_along number file count seen left (past ++ change ∷ [])
     ≡ cond (bytes_eq change.file file)
     (left_of_step (record { number = number; step = next }) change.step (after_all seen (steps_of file past)) (left_along number file count seen left past))
@@ -197,17 +222,22 @@ later_byte [] i = refl
 later_byte (byte ∷ bytes) i = refl
 
 -- one more byte is torn
-pub torn_bytes-push : (choice : Choice) (place next : ℕ) (former bytes : List ℕ) (byte : ℕ) → next ≡ place + length bytes
-    → torn_bytes choice place former (bytes ++ byte ∷ []) ≡ torn_bytes choice place former bytes ++ torn_byte (drawn choice next) (slice_index_or former (length bytes) 0) byte ∷ []
-torn_bytes-push choice place next former [] byte is = ap (λ n. torn_byte (drawn choice n) (slice_index_or former 0 0) byte ∷ []) (omega arith)
+pub torn_bytes-push : (choice : Choice) (place next : ℕ) (former bytes : List ℕ) (byte : ℕ)
+    → next ≡ place + length bytes
+    → torn_bytes choice place former (bytes ++ byte ∷ [])
+    ≡ torn_bytes choice place former bytes ++ torn_byte (drawn choice next) (slice_index_or former (length bytes) 0) byte ∷ []
+torn_bytes-push choice place next former [] byte is =
+    ap (λ n. torn_byte (drawn choice n) (slice_index_or former 0 0) byte ∷ []) (omega arith)
 torn_bytes-push choice place next former (first ∷ bytes) byte is =
     ap (λ torn. torn_byte (drawn choice place) (slice_index_or former 0 0) first ∷ torn)
     (torn_bytes-push choice (place + 1) next (drop 1 former) bytes byte (omega arith)
     ∙ ap (λ x. torn_bytes choice (place + 1) (drop 1 former) bytes ++ torn_byte (drawn choice next) x byte ∷ []) (later_byte former (length bytes)))
 
 -- the bytes so far, and one more
-pub torn_bytes-more : (choice : Choice) (place : ℕ) (former bytes so_far next : List ℕ) (i value : ℕ) → i < length bytes → next ≡ so_far ++ value ∷ [] → so_far ≡ torn_bytes choice place former (take i bytes)
-    → value ≡ torn_byte (drawn choice (place + i)) (slice_index_or former i 0) (get_or bytes i 0) → next ≡ torn_bytes choice place former (take (i + 1) bytes)
+pub torn_bytes-more : (choice : Choice) (place : ℕ) (former bytes so_far next : List ℕ) (i value : ℕ) → i < length bytes
+    → next ≡ so_far ++ value ∷ [] → so_far ≡ torn_bytes choice place former (take i bytes)
+    → value ≡ torn_byte (drawn choice (place + i)) (slice_index_or former i 0) (get_or bytes i 0)
+    → next ≡ torn_bytes choice place former (take (i + 1) bytes)
 torn_bytes-more choice place former bytes so_far next i value within pushed torn is =
     let count : length (take i bytes) ≡ i = omega (arith, length-take i bytes) in
     let byte = get_or bytes i 0 in
@@ -217,6 +247,7 @@ torn_bytes-more choice place former bytes so_far next i value within pushed torn
     ∙ ap (torn_bytes choice place former) (sym (take_more bytes i 0 within))
 
 -- what is left of a write that begins within the content
-pub left_of_write-within : (choice : Choice) (at : ℕ) (bytes content : List ℕ) (w : Way) → at ≤ length content → w ≡ way choice → write_by_way w choice at bytes content ≡ left_of_write choice at bytes content
+pub left_of_write-within : (choice : Choice) (at : ℕ) (bytes content : List ℕ) (w : Way) → at ≤ length content
+    → w ≡ way choice → write_by_way w choice at bytes content ≡ left_of_write choice at bytes content
 left_of_write-within choice at bytes content w within is =
     ap (λ x. write_by_way x choice at bytes content) is ∙ sym (cond-true _ _ _ (le-leb at (length content) within))

@@ -23,7 +23,8 @@ way_by number = if nat_eq (number % 4) 0 then Out else if nat_eq (number % 4) 1 
 
 -- 0 leaves each step out, 1 leaves it whole, and any other number leaves it in one of the three ways
 abbrev pub way : Choice → Way
-way choice = if nat_eq choice.number 0 then Out else if nat_eq choice.number 1 then Whole else way_by (drawn choice (2 ^ 64 - 1))
+way choice =
+    if nat_eq choice.number 0 then Out else if nat_eq choice.number 1 then Whole else way_by (drawn choice (2 ^ 64 - 1))
 
 -- a byte of a torn write: the former one, the written one or any other; one that was written over with itself stays
 abbrev pub torn_byte : ℕ → ℕ → ℕ → ℕ
@@ -62,7 +63,8 @@ write_by_way Torn choice at bytes content = torn_write choice at bytes content
 
 -- a content that ends before the place of a write stays as it is
 abbrev pub left_of_write : Choice → ℕ → List ℕ → List ℕ → List ℕ
-left_of_write choice at bytes content = if nat_le at (length content) then write_by_way (way choice) choice at bytes content else content
+left_of_write choice at bytes content =
+    if nat_le at (length content) then write_by_way (way choice) choice at bytes content else content
 
 -- what is left of a content by a cut
 abbrev pub cut_by_way : Way → Choice → ℕ → List ℕ → List ℕ

@@ -21,7 +21,8 @@ file_of (name, bytes) = record { name = name; bytes = bytes.items }
 -- no file has the name of a later one
 abbrev pub HaveDistinctNames : List (List ℕ × Vec ℕ Global) → Type 0
 HaveDistinctNames [] = Unit {0}
-HaveDistinctNames (file ∷ files) = AllByRecursion (λ later. bytes_eq file.0 later.0 ≡ false) files × HaveDistinctNames files
+HaveDistinctNames (file ∷ files) =
+    AllByRecursion (λ later. bytes_eq file.0 later.0 ≡ false) files × HaveDistinctNames files
 
 -- the bytes of the file of this name, and none where there is no such file
 abbrev pub bytes_of : List File → List ℕ → List ℕ
@@ -40,11 +41,13 @@ pub record DiskState : Type 0 where
 
 -- a disk with these files and no calls so far
 abbrev pub begun : List File → List ℕ → Option ℕ → DiskState
-begun initial failing stop_after = record { initial = initial; past = []; failing = failing; stop_after = stop_after; calls = 0; faults = 0 }
+begun initial failing stop_after =
+    record { initial = initial; past = []; failing = failing; stop_after = stop_after; calls = 0; faults = 0 }
 
 -- the call that comes next is a listed one, or comes after the last that may go through
 abbrev pub IsNextFailing : DiskState → Type 0
-IsNextFailing disk = Contains disk.failing (next_count disk.calls) ⊎ IsSomeAnd disk.stop_after (λ last. last ≤ disk.calls)
+IsNextFailing disk =
+    Contains disk.failing (next_count disk.calls) ⊎ IsSomeAnd disk.stop_after (λ last. last ≤ disk.calls)
 
 -- a call went through, and changed no file
 abbrev pub after_call : DiskState → DiskState
@@ -84,8 +87,10 @@ at_moment moment disk = record disk { past = take moment disk.past }
 
 -- a crash at some moment since this one might have left this image
 abbrev pub left_since_of : DiskState → ℕ → Image → Type 0
-left_since_of disk since image = (moment : ℕ) × (since ≤ moment) × (moment ≤ moment_of disk) × IsImage (left_of (at_moment moment disk)) image
+left_since_of disk since image =
+    (moment : ℕ) × (since ≤ moment) × (moment ≤ moment_of disk) × IsImage (left_of (at_moment moment disk)) image
 
 -- the files are what the changes made of the first ones
 abbrev pub Agrees : List File → List Change → List File → Type 0
-Agrees initial past files = (file : List ℕ) → bytes_of files file ≡ after_all (bytes_of initial file) (steps_of file past)
+Agrees initial past files =
+    (file : List ℕ) → bytes_of files file ≡ after_all (bytes_of initial file) (steps_of file past)

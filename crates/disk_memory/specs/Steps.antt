@@ -9,7 +9,8 @@ use Rattle.disk_memory.specs.declared.changes.Step.TheVariants.{Wrote, Cut, Sync
 -- the steps of one file
 abbrev pub steps_of : List ℕ → List Change → List Step
 steps_of file [] = []
-steps_of file (change ∷ rest) = if bytes_eq change.file file then change.step ∷ steps_of file rest else steps_of file rest
+steps_of file (change ∷ rest) =
+    if bytes_eq change.file file then change.step ∷ steps_of file rest else steps_of file rest
 
 -- what a read gives after a step; a write that would begin past the end is not made
 abbrev pub after : List ℕ → Step → List ℕ
@@ -31,7 +32,8 @@ Leaves Synced seen former now = now ≡ seen
 -- a crash behind all of these steps may leave this
 abbrev pub LeavesAfter : List ℕ → List ℕ → List Step → List ℕ → Type 0
 LeavesAfter seen former [] now = now ≡ former
-LeavesAfter seen former (step ∷ rest) now = (next : List ℕ) × Leaves step seen former next × LeavesAfter (after seen step) next rest now
+LeavesAfter seen former (step ∷ rest) now =
+    (next : List ℕ) × Leaves step seen former next × LeavesAfter (after seen step) next rest now
 
 -- what is sure to be there after a step, where a read gave and those bytes were sure before
 abbrev pub sure_after : Step → List ℕ → List ℕ → List ℕ

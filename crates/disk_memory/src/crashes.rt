@@ -37,8 +37,10 @@ pub(crate) fn left_by(
 ) -> Result<Vec<MemFile>, Memory>
     ensures chosen { IfOk result (λ files. (file : List ℕ) → bytes_of files.items file ≡ left_along number file 0 (bytes_of first.now file) (bytes_of first.now file) past.now) }
     ensures left { IfOk result (λ files. (file : List ℕ) → LeavesAfter (bytes_of first.now file) (bytes_of first.now file) (steps_of file past.now) (bytes_of files.items file)) }
-    ensures sure { number ≡ 0 → IfOk result (λ files. (file : List ℕ) → bytes_of files.items file ≡ synced (bytes_of first.now file) (bytes_of first.now file) (steps_of file past.now)) }
-    ensures whole { number ≡ 1 → IfOk result (λ files. (file : List ℕ) → bytes_of files.items file ≡ after_all (bytes_of first.now file) (steps_of file past.now)) }
+    ensures sure { number ≡ 0
+        → IfOk result (λ files. (file : List ℕ) → bytes_of files.items file ≡ synced (bytes_of first.now file) (bytes_of first.now file) (steps_of file past.now)) }
+    ensures whole { number ≡ 1
+        → IfOk result (λ files. (file : List ℕ) → bytes_of files.items file ≡ after_all (bytes_of first.now file) (steps_of file past.now)) }
 {
     let mut seen = copies(alloc, first)?;
     let mut left = copies(alloc, first)?;

@@ -12,13 +12,15 @@ use Rattle.dump_storage.specs.ProgressView.{AddsNothing}
 use Rattle.dump_storage.specs.Reading.{ReadsRecord, ReadsNoRecord, HasRead, HasReadAll, EndsBefore, HasNoEnding}
 
 -- a record at the front that has no reading goes nowhere
-pub ReadsNoRecord-front : (before : Progress) (bytes : List ℕ) (r : Record) (rest : List ℕ) → BeginsWith bytes r rest → AddsNothing before r → ReadsNoRecord before bytes
+pub ReadsNoRecord-front : (before : Progress) (bytes : List ℕ) (r : Record) (rest : List ℕ) → BeginsWith bytes r rest
+    → AddsNothing before r → ReadsNoRecord before bytes
 ReadsNoRecord-front before bytes r rest begins nothing after more goes =
     let one = spelled_record-once r goes.r rest more (sym begins.whole ∙ goes.begins.whole) begins.sized goes.begins.sized in
     nothing after (subst (λ (s : Record). Adds before s after) (sym one.0) goes.adds)
 
 -- one record more was read
-pub HasRead-more : (bytes rest more : List ℕ) (before after : Progress) → HasRead bytes before rest → ReadsRecord before rest after more → HasRead bytes after more
+pub HasRead-more : (bytes rest more : List ℕ) (before after : Progress) → HasRead bytes before rest
+    → ReadsRecord before rest after more → HasRead bytes after more
 HasRead-more bytes rest more before after read goes = record {
   records = read.records ++ goes.r ∷ [];
   begins = Begins-more Adds bytes read.records before after goes.r more (subst (Begins Adds bytes read.records before) goes.begins.whole read.begins) goes.begins.sized goes.adds;
@@ -42,7 +44,8 @@ module _ (bytes rest : List ℕ) (keys : KeyMap) (read : HasReadAll bytes keys r
   place_at more part = omega (arith, length_rest-le Adds bytes read.read.records read.progress rest read.read.begins)
 
   -- reading stops where something stands behind the ending
-  pub IsBadAt-behind : (more : List ℕ) (number : ℕ) → EndsBefore rest more → 1 ≤ length more → number ≡ line_at bytes (length bytes - length more) → IsBadAt Adds bytes number
+  pub IsBadAt-behind : (more : List ℕ) (number : ℕ) → EndsBefore rest more → 1 ≤ length more
+      → number ≡ line_at bytes (length bytes - length more) → IsBadAt Adds bytes number
   IsBadAt-behind more number ends some is =
       let line = ending_line rest more ends some in
       record {
@@ -59,7 +62,8 @@ module _ (bytes rest : List ℕ) (keys : KeyMap) (read : HasReadAll bytes keys r
       }
 
   -- reading stops where neither a record nor the ending stands
-  pub IsBadAt-inside : (number : ℕ) → HasNoEnding rest → number ≡ line_at bytes (length bytes - length rest) → IsBadAt Adds bytes number
+  pub IsBadAt-inside : (number : ℕ) → HasNoEnding rest → number ≡ line_at bytes (length bytes - length rest)
+      → IsBadAt Adds bytes number
   IsBadAt-inside number none is = record {
     place = length bytes - length rest;
     stops = Inside (record {

@@ -35,10 +35,12 @@ pub AllDigits-front : (xs digits : List ℕ) → digits ≡ take_while is_ascii_
 AllDigits-front xs digits front = subst (AllDigits 10) (sym front) (AllDigits-take_while xs)
 
 -- digits that a byte which is none ends are the front that passes
-pub prefix_len-digits : (ds rest : List ℕ) (last : ℕ) → AllDigits 10 ds → is_ascii_digit last ≡ false → prefix_len is_ascii_digit (ds ++ (last ∷ rest)) ≡ length ds
+pub prefix_len-digits : (ds rest : List ℕ) (last : ℕ) → AllDigits 10 ds → is_ascii_digit last ≡ false
+    → prefix_len is_ascii_digit (ds ++ (last ∷ rest)) ≡ length ds
 prefix_len-digits [] rest last h ends = cond-false (is_ascii_digit last) _ 0 ends
 prefix_len-digits (d ∷ ds) rest last h ends =
-    cond-true (is_ascii_digit d) _ 0 (test_from_digit d (digit_from_value d h.0)) ∙ omega (arith, prefix_len-digits ds rest last h.1 ends)
+    cond-true (is_ascii_digit d) _ 0 (test_from_digit d (digit_from_value d h.0))
+    ∙ omega (arith, prefix_len-digits ds rest last h.1 ends)
 
 -- digits that are like a size have a small value
 pub digits_value-small : (ds : List ℕ) → AllDigits 10 ds → length ds ≤ 7 → digits_value 10 ds < size_limit
@@ -63,7 +65,9 @@ IsSizeLike-decimal n small = record {
 }
 
 -- a size at the front is the digits there, and what stands behind it stands behind them
-pub take_while-size : (bytes rest : List ℕ) (last size : ℕ) → is_ascii_digit last ≡ false → BeginsWithSize bytes last size rest → (take_while is_ascii_digit bytes ≡ decimal size) × (drop (prefix_len is_ascii_digit bytes) bytes ≡ last ∷ rest)
+pub take_while-size : (bytes rest : List ℕ) (last size : ℕ) → is_ascii_digit last ≡ false
+    → BeginsWithSize bytes last size rest
+    → (take_while is_ascii_digit bytes ≡ decimal size) × (drop (prefix_len is_ascii_digit bytes) bytes ≡ last ∷ rest)
 take_while-size bytes rest last size ends begins =
     let ds = decimal size in
     let whole = ds ++ (last ∷ rest) in
@@ -74,7 +78,9 @@ take_while-size bytes rest last size ends begins =
     )
 
 -- digits that are like a size begin as the number that they write
-pub BeginsWithSize-digits : (bytes digits rest : List ℕ) (last size : ℕ) → digits ≡ take_while is_ascii_digit bytes → IsSizeLike digits → size ≡ digits_value 10 digits → drop (prefix_len is_ascii_digit bytes) bytes ≡ last ∷ rest → BeginsWithSize bytes last size rest
+pub BeginsWithSize-digits : (bytes digits rest : List ℕ) (last size : ℕ) → digits ≡ take_while is_ascii_digit bytes
+    → IsSizeLike digits → size ≡ digits_value 10 digits → drop (prefix_len is_ascii_digit bytes) bytes ≡ last ∷ rest
+    → BeginsWithSize bytes last size rest
 BeginsWithSize-digits bytes digits rest last size front like is behind =
     let all = AllDigits-front bytes digits front in
     let written : decimal size ≡ digits = ap decimal is ∙ decimal-size digits all like in
@@ -89,7 +95,8 @@ pub record AddsDigit (ds : List ℕ) (i n : ℕ) : Type 0 where
   pub small : n < size_limit
   pub more : digits_value 10 (take (i + 1) ds) ≡ n * 10 + (get_or ds i 0 - 48)
 
-pub AddsDigit-at : (ds : List ℕ) (i n : ℕ) → AllDigits 10 ds → length ds ≤ 7 → i < length ds → n ≡ digits_value 10 (take i ds) → AddsDigit ds i n
+pub AddsDigit-at : (ds : List ℕ) (i n : ℕ) → AllDigits 10 ds → length ds ≤ 7 → i < length ds
+    → n ≡ digits_value 10 (take i ds) → AddsDigit ds i n
 AddsDigit-at ds i n digits few at so_far =
     let digit = digit_at ds i digits at in
     record {

@@ -40,7 +40,9 @@ some-there None is none = absurd cc
 some-there (Some a) is none = absurd cc
 
 -- items that differ at one name make metadata that differ there
-pub meta_of-insert : (es fs : Items) (name text : List ℕ) → ((q : List ℕ) → lookup (is_at (text_cmp q)) fs ≡ cond (is_at (text_cmp name) q) (Some text) (lookup (is_at (text_cmp q)) es)) → meta_of fs ≡ finite.insert (meta_of es) name text
+pub meta_of-insert : (es fs : Items) (name text : List ℕ)
+    → ((q : List ℕ) → lookup (is_at (text_cmp q)) fs ≡ cond (is_at (text_cmp name) q) (Some text) (lookup (is_at (text_cmp q)) es))
+    → meta_of fs ≡ finite.insert (meta_of es) name text
 meta_of-insert es fs name text h = finite.same_map nat_list_cmp_total text_cmp-IsAntisymmetric _ _ (λ q.
     get-lookup fs q
     ∙ h q
@@ -53,14 +55,19 @@ abbrev pub Splits : Meta → Meta → Items → Type 0
 Splits whole meta rest = (q : List ℕ) → option_or (finite.get (meta_of rest) q) (finite.get meta q) ≡ finite.get whole q
 
 pub Splits-start : (es : Items) (meta : Meta) → meta ≡ finite.empty → Splits (meta_of es) meta es
-Splits-start es meta none q = ap (option_or (finite.get (meta_of es) q)) (ap (λ (m : Meta). finite.get m q) none ∙ finite.get-empty text_cmp q) ∙ or_none (finite.get (meta_of es) q)
+Splits-start es meta none q =
+    ap (option_or (finite.get (meta_of es) q)) (ap (λ (m : Meta). finite.get m q) none ∙ finite.get-empty text_cmp q)
+    ∙ or_none (finite.get (meta_of es) q)
 
-moves_over : (b : Bool) (e : List ℕ) (o meta : Option (List ℕ)) → (b ≡ true → o ≡ None) → option_or o (cond b (Some e) meta) ≡ option_or (cond b (Some e) o) meta
+moves_over : (b : Bool) (e : List ℕ) (o meta : Option (List ℕ)) → (b ≡ true → o ≡ None)
+    → option_or o (cond b (Some e) meta) ≡ option_or (cond b (Some e) o) meta
 moves_over true e o meta none = ap (λ p. option_or p (Some e)) (none refl)
 moves_over false e o meta none = refl
 
 -- the first item that is left joins the metadata
-pub Splits-more : (whole meta : Meta) (name text : List ℕ) (es rest : Items) → es ≡ (name, text) ∷ rest → lookup (is_at (text_cmp name)) rest ≡ None → Splits whole meta es → Splits whole (finite.insert meta name text) rest
+pub Splits-more : (whole meta : Meta) (name text : List ℕ) (es rest : Items) → es ≡ (name, text) ∷ rest
+    → lookup (is_at (text_cmp name)) rest ≡ None → Splits whole meta es
+    → Splits whole (finite.insert meta name text) rest
 Splits-more whole meta name text es rest first none splits q =
     ap (option_or (finite.get (meta_of rest) q)) (finite.get-insert nat_list_cmp_total meta name text q)
     ∙ moves_over (eq_by_cmp text_cmp q name) text (finite.get (meta_of rest) q) (finite.get meta q) missing
@@ -78,11 +85,13 @@ Splits-end whole meta rest none splits = finite.same_map nat_list_cmp_total text
     sym (ap (λ o. option_or o (finite.get meta q)) (ap (λ (fs : Items). finite.get (meta_of fs) q) none ∙ finite.get-empty text_cmp q)) ∙ splits q)
 
 -- a name that isn't too short or too long joins such
-pub lengths-put : (name text : List ℕ) (es : Items) → HasMetaLength (name, text) → HaveMetaLengths es → HaveMetaLengths (insert_entry text_cmp es name text)
+pub lengths-put : (name text : List ℕ) (es : Items) → HasMetaLength (name, text) → HaveMetaLengths es
+    → HaveMetaLengths (insert_entry text_cmp es name text)
 lengths-put name text [] fine all = (fine, tt)
 lengths-put name text (e ∷ es) fine all = by (text_cmp name e.0) (lengths-put name text es fine all.1)
   where
-    by : (o : Ordering) → HaveMetaLengths (insert_entry text_cmp es name text) → HaveMetaLengths (match_ordering o ((name, text) ∷ e ∷ es) ((e.0, text) ∷ es) (e ∷ insert_entry text_cmp es name text))
+    by : (o : Ordering) → HaveMetaLengths (insert_entry text_cmp es name text)
+        → HaveMetaLengths (match_ordering o ((name, text) ∷ e ∷ es) ((e.0, text) ∷ es) (e ∷ insert_entry text_cmp es name text))
     by Less behind = (fine, all)
     by Equal behind = (record { some = all.0.some; limit = all.0.limit }, all.1)
     by Greater behind = (all.0, behind)

@@ -14,11 +14,14 @@ OnOk-then (Ok x) P Q f h = f h
 OnOk-then (Err e) P Q f h = tt
 
 -- the metadata of a key, spelled
-pub spelled_metadata : (items : List (List ℕ × List ℕ)) → flat_map spelled_record (map record_of_meta items) ≡ flat_map (λ item. spelled_record (record_of_meta item)) items
+pub spelled_metadata : (items : List (List ℕ × List ℕ))
+    → flat_map spelled_record (map record_of_meta items) ≡ flat_map (λ item. spelled_record (record_of_meta item)) items
 spelled_metadata items = flat_map-map spelled_record record_of_meta items
 
 -- keys, spelled one by one
-pub spelled_keys : (keys : List (Name × Entry)) → flat_map (λ key. flat_map spelled_record (records_of_key key)) keys ≡ flat_map spelled_record (flat_map records_of_key keys)
+pub spelled_keys : (keys : List (Name × Entry))
+    → flat_map (λ key. flat_map spelled_record (records_of_key key)) keys
+    ≡ flat_map spelled_record (flat_map records_of_key keys)
 spelled_keys [] = refl
 spelled_keys (key ∷ keys) =
     ap (λ x. flat_map spelled_record (records_of_key key) ++ x) (spelled_keys keys)

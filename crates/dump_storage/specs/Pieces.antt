@@ -39,7 +39,8 @@ pub record BeginsWithSizes (bytes : List ℕ) (kind : RecordKind) (first second 
 
 -- the bytes begin with no such line
 abbrev pub BeginsWithNoSizes : List ℕ → Type 0
-BeginsWithNoSizes bytes = (kind : RecordKind) (first second : ℕ) (rest : List ℕ) → BeginsWithSizes bytes kind first second rest → ⊥
+BeginsWithNoSizes bytes =
+    (kind : RecordKind) (first second : ℕ) (rest : List ℕ) → BeginsWithSizes bytes kind first second rest → ⊥
 
 -- the bytes begin with a record, and the rest follows
 pub record BeginsWith (bytes : List ℕ) (r : Record) (rest : List ℕ) : Type 0 where

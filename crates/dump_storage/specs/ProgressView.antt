@@ -17,7 +17,11 @@ with_present keys (Some present) = map.insert keys present.name present.entry
 
 -- all keys so far, and the name of the present one
 abbrev pub progress_of : code.Progress → Progress
-progress_of so_far = record { keys = with_present so_far.keys so_far.present; present = option_map (λ present. present.name) so_far.present }
+progress_of so_far =
+    record {
+      keys = with_present so_far.keys so_far.present;
+      present = option_map (λ present. present.name) so_far.present;
+    }
 
 -- the present key isn't one of the keys before it
 abbrev pub IsApart : KeyMap → Option code_present.Present → Type 0
@@ -26,7 +30,8 @@ IsApart keys (Some present) = map.get keys present.name ≡ None
 
 -- each metadata of each key has a name that metadata may have
 abbrev pub HasMetaNames : KeyMap → Type 0
-HasMetaNames keys = (name : Name) (entry : Entry) (meta_name text : List ℕ) → map.get keys name ≡ Some entry → map.get entry.meta meta_name ≡ Some text → IsMetaName meta_name
+HasMetaNames keys =
+    (name : Name) (entry : Entry) (meta_name text : List ℕ) → map.get keys name ≡ Some entry → map.get entry.meta meta_name ≡ Some text → IsMetaName meta_name
 
 -- what holds of every progress that records lead to
 pub record IsSound (so_far : code.Progress) : Type 0 where
@@ -54,4 +59,5 @@ pub record PutsInto (before : code_present.Present) (weighed : ℕ) (name text :
 
 -- a present key has the metadata, or all keys would be too heavy with it
 abbrev pub CannotPut : code_present.Present → ℕ → List ℕ → List ℕ → Type 0
-CannotPut present weighed name text = map.get present.entry.meta name ≡ None → heaviest_map < weighed + length name + length text
+CannotPut present weighed name text =
+    map.get present.entry.meta name ≡ None → heaviest_map < weighed + length name + length text

@@ -15,7 +15,9 @@ module _ {S : Type 0} (Step : S → List ℕ → S → Type 0) (start : S) (byte
   HasRead-start = record { front = []; whole = refl; leads = refl; next_is = refl }
 
   -- one line more
-  pub HasRead-more : (rest behind line : List ℕ) (progress after : S) (next : ℕ) → HasRead Step start bytes rest progress next → lines rest ≡ line ∷ lines behind → Step progress line after → HasRead Step start bytes behind after (next + 1)
+  pub HasRead-more : (rest behind line : List ℕ) (progress after : S) (next : ℕ)
+      → HasRead Step start bytes rest progress next → lines rest ≡ line ∷ lines behind → Step progress line after
+      → HasRead Step start bytes behind after (next + 1)
   HasRead-more rest behind line progress after next h cut step = record {
     front = h.front ++ line ∷ [];
     whole = h.whole ∙ ap (λ ls. h.front ++ ls) cut ∙ sym (append_assoc h.front (line ∷ []) (lines behind));
@@ -24,7 +26,9 @@ module _ {S : Type 0} (Step : S → List ℕ → S → Type 0) (start : S) (byte
   }
 
   -- where the next line leads nowhere, the file is bad there
-  pub HasRead-stops : (rest behind line : List ℕ) (progress : S) (next : ℕ) → HasRead Step start bytes rest progress next → lines rest ≡ line ∷ lines behind → ((after : S) → Step progress line after → ⊥) → StopsAt Step start (lines bytes) next
+  pub HasRead-stops : (rest behind line : List ℕ) (progress : S) (next : ℕ)
+      → HasRead Step start bytes rest progress next → lines rest ≡ line ∷ lines behind
+      → ((after : S) → Step progress line after → ⊥) → StopsAt Step start (lines bytes) next
   HasRead-stops rest behind line progress next h cut none = record {
     front = h.front;
     progress = progress;

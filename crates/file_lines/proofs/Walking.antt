@@ -19,7 +19,8 @@ module _ (Has : Name → Entry → Type 0) (keys : KeyMap) where
   HaveBefore-start = record { front = []; all = refl; before = tt }
 
   -- one more has it
-  pub HaveBefore-more : (name : Name) (entry : Entry) (left behind : List (Name × Entry)) → HaveBefore Has keys left → left ≡ (name, entry) ∷ behind → Has name entry → HaveBefore Has keys behind
+  pub HaveBefore-more : (name : Name) (entry : Entry) (left behind : List (Name × Entry)) → HaveBefore Has keys left
+      → left ≡ (name, entry) ∷ behind → Has name entry → HaveBefore Has keys behind
   HaveBefore-more name entry left behind h cut has = record {
     front = h.front ++ (name, entry) ∷ [];
     all = subst (λ rest. map.entries keys ≡ h.front ++ rest) cut h.all ∙ sym (append_assoc h.front ((name, entry) ∷ []) behind);
@@ -28,10 +29,12 @@ module _ (Has : Name → Entry → Type 0) (keys : KeyMap) where
 
   -- none is left
   pub HaveBefore-all : HaveBefore Has keys [] → EachHas Has keys
-  HaveBefore-all h = EachHas-entries Has keys (subst (AllByRecursion (λ key. Has key.0 key.1)) (sym (h.all ∙ append-nil h.front)) h.before)
+  HaveBefore-all h =
+      EachHas-entries Has keys (subst (AllByRecursion (λ key. Has key.0 key.1)) (sym (h.all ∙ append-nil h.front)) h.before)
 
   -- the next one lacks it
-  pub HaveBefore-lacks : (name : Name) (entry : Entry) (left behind : List (Name × Entry)) → HaveBefore Has keys left → left ≡ (name, entry) ∷ behind → (Has name entry → ⊥) → LacksFirst Has keys name
+  pub HaveBefore-lacks : (name : Name) (entry : Entry) (left behind : List (Name × Entry)) → HaveBefore Has keys left
+      → left ≡ (name, entry) ∷ behind → (Has name entry → ⊥) → LacksFirst Has keys name
   HaveBefore-lacks name entry left behind h cut lacks = record {
     front = h.front;
     entry = entry;

@@ -13,7 +13,8 @@ tells q k Equal same = inr (refl, same refl)
 tells q k Greater same = inl refl
 
 -- two keys are told apart, or they are one
-pub tied_or_not : {K : Type 0} {R : K → K → Ordering} → IsAntisymmetric R → (q k : K) → (eq_by_cmp R q k ≡ false) ⊎ ((eq_by_cmp R q k ≡ true) × (q ≡ k))
+pub tied_or_not : {K : Type 0} {R : K → K → Ordering} → IsAntisymmetric R → (q k : K)
+    → (eq_by_cmp R q k ≡ false) ⊎ ((eq_by_cmp R q k ≡ true) × (q ≡ k))
 tied_or_not {R = R} same q k = tells q k (R q k) (same q k)
 
 module _ {K X : Type 0} {R : K → K → Ordering} (total : IsTotalOrder R) where
@@ -22,7 +23,8 @@ module _ {K X : Type 0} {R : K → K → Ordering} (total : IsTotalOrder R) wher
     pub get-elsewhere : q ≢ k → map.get (map.insert m k v) q ≡ map.get m q
     get-elsewhere other = elsewhere (tied_or_not {R = R} same q k)
       where
-        elsewhere : (eq_by_cmp R q k ≡ false) ⊎ ((eq_by_cmp R q k ≡ true) × (q ≡ k)) → map.get (map.insert m k v) q ≡ map.get m q
+        elsewhere : (eq_by_cmp R q k ≡ false) ⊎ ((eq_by_cmp R q k ≡ true) × (q ≡ k))
+            → map.get (map.insert m k v) q ≡ map.get m q
         elsewhere (inl differ) = map.get-insert total m k v q ∙ ap (λ b. cond b (Some v) (map.get m q)) differ
         elsewhere (inr tied) = absurd (other tied.1)
 
@@ -30,8 +32,10 @@ module _ {K X : Type 0} {R : K → K → Ordering} (total : IsTotalOrder R) wher
     pub get-cases : (x : X) → map.get (map.insert m k v) q ≡ Some x → (map.get m q ≡ Some x) ⊎ ((q ≡ k) × (v ≡ x))
     get-cases x found = cases (tied_or_not {R = R} same q k)
       where
-        cases : (eq_by_cmp R q k ≡ false) ⊎ ((eq_by_cmp R q k ≡ true) × (q ≡ k)) → (map.get m q ≡ Some x) ⊎ ((q ≡ k) × (v ≡ x))
-        cases (inl differ) = inl (sym (map.get-insert total m k v q ∙ ap (λ b. cond b (Some v) (map.get m q)) differ) ∙ found)
+        cases : (eq_by_cmp R q k ≡ false) ⊎ ((eq_by_cmp R q k ≡ true) × (q ≡ k))
+            → (map.get m q ≡ Some x) ⊎ ((q ≡ k) × (v ≡ x))
+        cases (inl differ) =
+            inl (sym (map.get-insert total m k v q ∙ ap (λ b. cond b (Some v) (map.get m q)) differ) ∙ found)
         cases (inr tied) =
             let here : Some v ≡ Some x = sym (map.get-insert total m k v q ∙ ap (λ b. cond b (Some v) (map.get m q)) tied.0) ∙ found in
             inr (tied.1, cc)

@@ -19,7 +19,8 @@ use Rattle.general_words.proofs.Entries.{find-front, find-next}
 
 -- no entries make the empty map
 pub from_sorted-nil : {K X : Type 0} (R : K → K → Ordering) → map.from_sorted {X = X} {R = R} [] ≡ map.empty
-from_sorted-nil R = map.empty_of_len _ (map.len-entries (map.from_sorted []) ∙ ap length (map.entries-from_sorted R [] tt))
+from_sorted-nil R =
+    map.empty_of_len _ (map.len-entries (map.from_sorted []) ∙ ap length (map.entries-from_sorted R [] tt))
 
 -- the empty map has no entries
 pub entries-empty : {K : Type 0} (R : K → K → Ordering) (X : Type 0) → map.entries (map.empty {X = X} {R = R}) ≡ []
@@ -29,7 +30,8 @@ entries-empty R X = nil_from_length _ (sym (map.len-entries (map.empty {X = X} {
 
 module _ {K X : Type 0} (R : K → K → Ordering) (o : IsTotalOrder R) where
   -- an entry put among the entries is inserted into the map
-  pub from_sorted-put : (es : List (K × X)) (k : K) (v : X) → T (is_sorted R es) → map.from_sorted {R = R} (put R k v es) ≡ map.insert (map.from_sorted es) k v
+  pub from_sorted-put : (es : List (K × X)) (k : K) (v : X) → T (is_sorted R es)
+      → map.from_sorted {R = R} (put R k v es) ≡ map.insert (map.from_sorted es) k v
   from_sorted-put es k v h = map.same_entries_map _ _ (
       map.entries-from_sorted R (put R k v es) (is_sorted-put R o k v es h)
       ∙ ap (put R k v) (sym (map.entries-from_sorted R es h))
@@ -37,7 +39,8 @@ module _ {K X : Type 0} (R : K → K → Ordering) (o : IsTotalOrder R) where
 
   module _ (same : IsAntisymmetric R) where
     -- the entries whose keys pass a test make the map of those keys
-    pub from_sorted-where_key : (es : List (K × X)) (p : K → Bool) → T (is_sorted R es) → map.from_sorted {R = R} (where_key R p es) ≡ map.retain_keys (map.from_sorted es) p
+    pub from_sorted-where_key : (es : List (K × X)) (p : K → Bool) → T (is_sorted R es)
+        → map.from_sorted {R = R} (where_key R p es) ≡ map.retain_keys (map.from_sorted es) p
     from_sorted-where_key es p h = map.same_map o same _ _ (λ q.
         let alike : (x : K) → R q x ≡ Equal → p x ≡ p q = λ x t. ap p (sym (same q x t)) in
         map.get-from_sorted R (where_key R p es) q (is_sorted-where_key R p es h)
@@ -50,7 +53,8 @@ module _ {K X : Type 0} (R : K → K → Ordering) (o : IsTotalOrder R) where
     negated false v = refl
 
     -- without the entry of a key they make the map from which it is removed
-    pub from_sorted-without : (es : List (K × X)) (k : K) → T (is_sorted R es) → map.from_sorted {R = R} (where_key R (λ x. not (eq_by_cmp R k x)) es) ≡ map.remove (map.from_sorted es) k
+    pub from_sorted-without : (es : List (K × X)) (k : K) → T (is_sorted R es)
+        → map.from_sorted {R = R} (where_key R (λ x. not (eq_by_cmp R k x)) es) ≡ map.remove (map.from_sorted es) k
     from_sorted-without es k h = map.same_map o same _ _ (λ q.
         let p : K → Bool = λ x. not (eq_by_cmp R k x) in
         let alike : (x : K) → R q x ≡ Equal → p x ≡ p q = λ x t. ap p (sym (same q x t)) in
@@ -92,7 +96,9 @@ module _ {K X : Type 0} {R : K → K → Ordering} (total : IsTotalOrder R) wher
         ∙ sym (map.get-insert total m k v q))
 
     -- what holds of each entry holds with one more
-    pub each-insert : (P : K → X → Type 0) (m : FinMap R X) (k : K) (v : X) → ((q : K) (x : X) → map.get m q ≡ Some x → P q x) → P k v → (q : K) (x : X) → map.get (map.insert m k v) q ≡ Some x → P q x
+    pub each-insert : (P : K → X → Type 0) (m : FinMap R X) (k : K) (v : X)
+        → ((q : K) (x : X) → map.get m q ≡ Some x → P q x) → P k v → (q : K) (x : X)
+        → map.get (map.insert m k v) q ≡ Some x → P q x
     each-insert P m k v each one q x found =
         elim (eq_by_cmp R q k) as (λ b. eq_by_cmp R q k ≡ b → cond b (Some v) (map.get m q) ≡ Some x → P q x) [
           | true ↦ λ is h.
@@ -104,12 +110,14 @@ module _ {K X : Type 0} {R : K → K → Ordering} (total : IsTotalOrder R) wher
 
     -- ---- the keys that pass a test
 
-    pub get-retain : (m : FinMap R X) (p : K → Bool) (q : K) → map.get (map.retain_keys m p) q ≡ cond (p q) (map.get m q) None
+    pub get-retain : (m : FinMap R X) (p : K → Bool) (q : K)
+        → map.get (map.retain_keys m p) q ≡ cond (p q) (map.get m q) None
     get-retain m p q = map.get-retain_keys m p q (λ x t. ap p (sym (same q x t)))
 
     -- no key passes where there is none
     pub retain-empty : (p : K → Bool) → map.retain_keys (map.empty {X = X} {R = R}) p ≡ map.empty
-    retain-empty p = map.same_map total same _ _ (λ q. get-retain map.empty p q ∙ cond_nothing (p q) (map.get map.empty q) (map.get-empty R q) ∙ sym (map.get-empty R q))
+    retain-empty p =
+        map.same_map total same _ _ (λ q. get-retain map.empty p q ∙ cond_nothing (p q) (map.get map.empty q) (map.get-empty R q) ∙ sym (map.get-empty R q))
 
     pub entries-retain : (m : FinMap R X) (p : K → Bool) → map.entries (map.retain_keys m p) ≡ where_key R p (map.entries m)
     entries-retain m p =
@@ -121,21 +129,28 @@ module _ {K X : Type 0} {R : K → K → Ordering} (total : IsTotalOrder R) wher
 -- ---- sums over the entries
 
 -- a new entry stands before the first, or behind it: the sum grows by it either way
-placed : {K X : Type 0} (f : (K × X) → ℕ) (new e : K × X) (es puts tied : List (K × X)) (o : Ordering) (rest : Option X) → cond (is_eq o) (Some e.1) rest ≡ None → (rest ≡ None → sum_by f puts ≡ sum_by f es + f new)
+placed : {K X : Type 0} (f : (K × X) → ℕ) (new e : K × X) (es puts tied : List (K × X)) (o : Ordering) (rest : Option X)
+    → cond (is_eq o) (Some e.1) rest ≡ None → (rest ≡ None → sum_by f puts ≡ sum_by f es + f new)
     → sum_by f (by_order o (new ∷ e ∷ es) tied (e ∷ puts)) ≡ sum_by f (e ∷ es) + f new
 placed f new e es puts tied Less rest none step = omega (arith, sum_by-cons f new (e ∷ es))
 placed f new e es puts tied Equal rest none step = absurd cc
 placed f new e es puts tied Greater rest none step = omega (arith, sum_by-cons f e puts, sum_by-cons f e es, step none)
 
-sum_by-put : {K X : Type 0} (R : K → K → Ordering) (f : (K × X) → ℕ) (k : K) (v : X) (es : List (K × X)) → find R k es ≡ None → sum_by f (put R k v es) ≡ sum_by f es + f (k, v)
+sum_by-put : {K X : Type 0} (R : K → K → Ordering) (f : (K × X) → ℕ) (k : K) (v : X) (es : List (K × X))
+    → find R k es ≡ None → sum_by f (put R k v es) ≡ sum_by f es + f (k, v)
 sum_by-put R f k v [] none = omega (arith, sum_by-cons f (k, v) [])
-sum_by-put R f k v (e ∷ es) none = placed f (k, v) e es (put R k v es) ((e.0, v) ∷ es) (R k e.0) (find R k es) none (sum_by-put R f k v es)
+sum_by-put R f k v (e ∷ es) none =
+    placed f (k, v) e es (put R k v es) ((e.0, v) ∷ es) (R k e.0) (find R k es) none (sum_by-put R f k v es)
 
 -- a key that the map has not adds its own part to a sum over the entries
-pub sum_by-insert : {K X : Type 0} {R : K → K → Ordering} (total : IsTotalOrder R) (f : (K × X) → ℕ) (m : FinMap R X) (k : K) (v : X) → map.get m k ≡ None → sum_by f (map.entries (map.insert m k v)) ≡ sum_by f (map.entries m) + f (k, v)
+pub sum_by-insert : {K X : Type 0} {R : K → K → Ordering} (total : IsTotalOrder R) (f : (K × X) → ℕ) (m : FinMap R X)
+    (k : K) (v : X) → map.get m k ≡ None
+    → sum_by f (map.entries (map.insert m k v)) ≡ sum_by f (map.entries m) + f (k, v)
 sum_by-insert {R = R} total f m k v none =
-    ap (sum_by f) (map.entries-insert total m k v) ∙ sum_by-put R f k v (map.entries m) (sym (map.get-entries m k) ∙ none)
+    ap (sum_by f) (map.entries-insert total m k v)
+    ∙ sum_by-put R f k v (map.entries m) (sym (map.get-entries m k) ∙ none)
 
 -- a sum over no entries
-pub sum_by-empty : {K X : Type 0} (R : K → K → Ordering) (f : (K × X) → ℕ) → sum_by f (map.entries (map.empty {X = X} {R = R})) ≡ 0
+pub sum_by-empty : {K X : Type 0} (R : K → K → Ordering) (f : (K × X) → ℕ)
+    → sum_by f (map.entries (map.empty {X = X} {R = R})) ≡ 0
 sum_by-empty {X = X} R f = ap (sum_by f) (entries-empty R X)

@@ -11,23 +11,28 @@ there_is (x ∷ xs) (suc i) lt = there_is xs i (omega arith)
 
 -- ---- one more element
 
-pub before-last : {A : Type 0} (xs : List A) (x y : A) (i : ℕ) → slice_get (xs ++ x ∷ []) i ≡ Some y → i < length xs → slice_get xs i ≡ Some y
+pub before-last : {A : Type 0} (xs : List A) (x y : A) (i : ℕ) → slice_get (xs ++ x ∷ []) i ≡ Some y → i < length xs
+    → slice_get xs i ≡ Some y
 before-last [] x y i there lt = absurd (omega arith)
 before-last (z ∷ zs) x y zero there lt = there
 before-last (z ∷ zs) x y (suc i) there lt = before-last zs x y i there (omega arith)
 
-pub at-last : {A : Type 0} (xs : List A) (x y : A) (i : ℕ) → slice_get (xs ++ x ∷ []) i ≡ Some y → length xs ≤ i → (i ≡ length xs) × (x ≡ y)
+pub at-last : {A : Type 0} (xs : List A) (x y : A) (i : ℕ) → slice_get (xs ++ x ∷ []) i ≡ Some y → length xs ≤ i
+    → (i ≡ length xs) × (x ≡ y)
 at-last [] x y zero there le = (refl, some_is x y there)
 at-last [] x y (suc i) there le = absurd cc
 at-last (z ∷ zs) x y zero there le = absurd (omega arith)
-at-last (z ∷ zs) x y (suc i) there le = let rest = at-last zs x y i there (omega arith) in (omega (arith, rest.0), rest.1)
+at-last (z ∷ zs) x y (suc i) there le =
+    let rest = at-last zs x y i there (omega arith) in (omega (arith, rest.0), rest.1)
 
 -- an element of a longer list stands in the list, or is the last
-pub last_or_before : {A : Type 0} (xs : List A) (x y : A) (i : ℕ) → slice_get (xs ++ x ∷ []) i ≡ Some y → (slice_get xs i ≡ Some y) ⊎ ((i ≡ length xs) × (x ≡ y))
+pub last_or_before : {A : Type 0} (xs : List A) (x y : A) (i : ℕ) → slice_get (xs ++ x ∷ []) i ≡ Some y
+    → (slice_get xs i ≡ Some y) ⊎ ((i ≡ length xs) × (x ≡ y))
 last_or_before [] x y zero e = inr (refl, some_is x y e)
 last_or_before [] x y (suc i) e = absurd cc
 last_or_before (z ∷ xs) x y zero e = inl e
-last_or_before (z ∷ xs) x y (suc i) e = elim (last_or_before xs x y i e) [ inl h ↦ inl h | inr h ↦ inr (ap suc h.0, h.1) ]
+last_or_before (z ∷ xs) x y (suc i) e =
+    elim (last_or_before xs x y i e) [ inl h ↦ inl h | inr h ↦ inr (ap suc h.0, h.1) ]
 
 -- ---- one place changed
 

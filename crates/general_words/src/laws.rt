@@ -23,8 +23,10 @@ pub fn the_order_of_texts_is_total()
 
 /// A search finds an answer where one is given, and none is given before it; it finds none where none is given.
 pub fn the_first_answer_comes_before_all_others()
-    ensures found { (answer : ℕ → Option ℕ) (xs : List ℕ) (y : ℕ) → first_some answer xs ≡ Some y → IsFirstAnswer answer xs y }
-    ensures none { (answer : ℕ → Option ℕ) (xs : List ℕ) → first_some answer xs ≡ None → (i : ℕ) (x : ℕ) → Some x ≡ slice_get xs i → answer x ≡ None }
+    ensures found { (answer : ℕ → Option ℕ) (xs : List ℕ) (y : ℕ) → first_some answer xs ≡ Some y
+        → IsFirstAnswer answer xs y }
+    ensures none { (answer : ℕ → Option ℕ) (xs : List ℕ) → first_some answer xs ≡ None → (i : ℕ) (x : ℕ)
+        → Some x ≡ slice_get xs i → answer x ≡ None }
 {}
 
 /// A saturated number fits a `u64`, and is the number itself where that fits.
@@ -41,17 +43,22 @@ pub fn want_of_memory_excuses_no_other_fault()
 /// The map of a map's first entries grows by the next one, from the empty map to the whole.
 pub fn entries_join_the_front_of_a_map_one_by_one()
     ensures none { (texts : FinMap text_cmp (List ℕ)) → front texts 0 ≡ map.empty }
-    ensures next { (texts : FinMap text_cmp (List ℕ)) (i : ℕ) (entry : List ℕ × List ℕ) → Some entry ≡ slice_get (map.entries texts) i → front texts (i + 1) ≡ map.insert (front texts i) entry.0 entry.1 }
+    ensures next { (texts : FinMap text_cmp (List ℕ)) (i : ℕ) (entry : List ℕ × List ℕ)
+        → Some entry ≡ slice_get (map.entries texts) i
+        → front texts (i + 1) ≡ map.insert (front texts i) entry.0 entry.1 }
     ensures all { (texts : FinMap text_cmp (List ℕ)) (n : ℕ) → length (map.entries texts) ≤ n → front texts n ≡ texts }
 {}
 
 /// Of two values that are set at one key the last one stays.
 pub fn of_two_values_the_last_stays()
-    ensures { (texts : FinMap text_cmp (List ℕ)) (key first last : List ℕ) → map.insert (map.insert texts key first) key last ≡ map.insert texts key last }
+    ensures { (texts : FinMap text_cmp (List ℕ)) (key first last : List ℕ)
+        → map.insert (map.insert texts key first) key last ≡ map.insert texts key last }
 {}
 
 /// A key that is set is found, and nothing changes at any other key.
 pub fn an_insertion_changes_one_key()
-    ensures here { (texts : FinMap text_cmp (List ℕ)) (key text : List ℕ) → map.get (map.insert texts key text) key ≡ Some text }
-    ensures elsewhere { (texts : FinMap text_cmp (List ℕ)) (key text other : List ℕ) → other ≢ key → map.get (map.insert texts key text) other ≡ map.get texts other }
+    ensures here { (texts : FinMap text_cmp (List ℕ)) (key text : List ℕ)
+        → map.get (map.insert texts key text) key ≡ Some text }
+    ensures elsewhere { (texts : FinMap text_cmp (List ℕ)) (key text other : List ℕ) → other ≢ key
+        → map.get (map.insert texts key text) other ≡ map.get texts other }
 {}

@@ -11,7 +11,8 @@ use Rattle.general_words.proofs.Lists.{none_is_no_some}
 -- a line is as it was, or had a carriage return at its end
 line-ends : (line : List ℕ) → (without_return line ≡ line) ⊎ (line ≡ without_return line ++ 13 ∷ [])
 line-ends [] = inl refl
-line-ends (b ∷ []) = cond_both (b == 13) [] (b ∷ []) (λ (r : List ℕ). (r ≡ b ∷ []) ⊎ (b ∷ [] ≡ r ++ 13 ∷ [])) (λ is. inr (ap (λ x. x ∷ []) (eqb-true b 13 is))) (λ _. inl refl)
+line-ends (b ∷ []) =
+    cond_both (b == 13) [] (b ∷ []) (λ (r : List ℕ). (r ≡ b ∷ []) ⊎ (b ∷ [] ≡ r ++ 13 ∷ [])) (λ is. inr (ap (λ x. x ∷ []) (eqb-true b 13 is))) (λ _. inl refl)
 line-ends (b ∷ c ∷ bytes) = elim (line-ends (c ∷ bytes)) as (λ _. (b ∷ without_return (c ∷ bytes) ≡ b ∷ c ∷ bytes) ⊎ (b ∷ c ∷ bytes ≡ b ∷ (without_return (c ∷ bytes) ++ 13 ∷ []))) [
   | inl same ↦ inl (ap (λ r. b ∷ r) same)
   | inr cut ↦ inr (ap (λ r. b ∷ r) cut)
@@ -30,7 +31,8 @@ cut-whole (b ∷ bytes) text =
     (λ is e. let hash : b ≡ 35 = eqb-true b 35 is in let rest : bytes ≡ text = cc in cc)
     (λ _ e. ap (λ rest. b ∷ rest) (cut-whole bytes text e))
 
-comment-own : (tokens : List (List ℕ)) (own : Option (List ℕ)) (text : List ℕ) → meaning_of tokens own ≡ Comment text → own ≡ Some text
+comment-own : (tokens : List (List ℕ)) (own : Option (List ℕ)) (text : List ℕ) → meaning_of tokens own ≡ Comment text
+    → own ≡ Some text
 comment-own [] None text e = absurd cc
 comment-own [] (Some t) text e = cc
 comment-own (word ∷ []) own text e = absurd cc

@@ -21,19 +21,24 @@ use Rattle.hosts_storage.specs.Holding.{HasComments, IsHost, IsAlias}
 use Rattle.general_words.proofs.Deciding.{said}
 use Rattle.key_meta.proofs.SameLemmas.{meta_decides}
 
-pub nothing-decides : (entry : Entry) (is : Bool) → length entry.value ≡ 0 → is ≡ (length (map.entries entry.meta) == 0) → Decides is (entry ≡ plain_entry [])
+pub nothing-decides : (entry : Entry) (is : Bool) → length entry.value ≡ 0 → is ≡ (length (map.entries entry.meta) == 0)
+    → Decides is (entry ≡ plain_entry [])
 nothing-decides entry is none test = (
   λ passes. λ i. record { value = nil_from_length entry.value none i; meta = map.empty_of_len entry.meta (map.len-entries entry.meta ∙ eqb-true (length (map.entries entry.meta)) 0 (sym test ∙ passes)) i },
   λ plain. test ∙ ap (λ (e : Entry). length (map.entries e.meta) == 0) plain ∙ ap (λ (items : List (List ℕ × List ℕ)). length items == 0) (entries-empty text_cmp (List ℕ)),
 )
 
 -- a key is there where something is found
-pub there-decides : {A : Type 0} (f : A → Entry) (o : Option A) (found : Option Entry) (is : Bool) → option_map f o ≡ found → is ≡ is_some o → Decides is ((entry : Entry) × (found ≡ Some entry))
-there-decides f None found is e test = (λ passes. absurd cc, λ there. let clash : ◌≡◌ {A = Option Entry} None (Some there.0) = e ∙ there.1 in absurd cc)
+pub there-decides : {A : Type 0} (f : A → Entry) (o : Option A) (found : Option Entry) (is : Bool)
+    → option_map f o ≡ found → is ≡ is_some o → Decides is ((entry : Entry) × (found ≡ Some entry))
+there-decides f None found is e test =
+    (λ passes. absurd cc, λ there. let clash : ◌≡◌ {A = Option Entry} None (Some there.0) = e ∙ there.1 in absurd cc)
 there-decides f (Some x) found is e test = (λ _. (f x, sym e), λ _. test)
 
 -- metadata are comments where they are those of their texts
-pub comments-decided : (meta made : Meta) (texts : List (List ℕ)) (is : Bool) → texts ≡ texts_of meta → made ≡ comments texts → is ≡ same_meta made meta → length texts ≤ last_index → AllByRecursion IsOneLine texts → Decides is (HasComments meta)
+pub comments-decided : (meta made : Meta) (texts : List (List ℕ)) (is : Bool) → texts ≡ texts_of meta
+    → made ≡ comments texts → is ≡ same_meta made meta → length texts ≤ last_index → AllByRecursion IsOneLine texts
+    → Decides is (HasComments meta)
 comments-decided meta made texts is e m test few lines =
     said is
     (λ (same : made ≡ meta). record {
@@ -45,12 +50,17 @@ comments-decided meta made texts is e m test few lines =
     (subst (λ b. Decides b (made ≡ meta)) (sym test) (meta_decides made meta))
 
 -- an alias's key by what it needs
-pub alias-decides : (keys : KeyMap) (of_family host alias : Part) (entry : Entry) (is : Bool) → IsWord alias × (entry ≡ plain_entry []) → Decides is ((found : Entry) × (map.get keys (host_name of_family host) ≡ Some found)) → Decides is (IsAlias keys of_family host alias entry)
+pub alias-decides : (keys : KeyMap) (of_family host alias : Part) (entry : Entry) (is : Bool)
+    → IsWord alias × (entry ≡ plain_entry [])
+    → Decides is ((found : Entry) × (map.get keys (host_name of_family host) ≡ Some found))
+    → Decides is (IsAlias keys of_family host alias entry)
 alias-decides keys of_family host alias entry is plain =
     said is (λ there. record { word = plain.0; plain = plain.1; host_entry = there.0; found = there.1 }) (λ key. (key.host_entry, key.found))
 
 -- a key of two parts is a host's, or none
-pub host-decides : (keys : KeyMap) (name : Name) (of_family host : Part) (entry : Entry) (is : Bool) → name.namespace ≡ Cascading → name.parts ≡ of_family ∷ host ∷ [] → Decides is (IsHost of_family host entry) → Decides is (IsHostsKey keys name entry)
+pub host-decides : (keys : KeyMap) (name : Name) (of_family host : Part) (entry : Entry) (is : Bool)
+    → name.namespace ≡ Cascading → name.parts ≡ of_family ∷ host ∷ [] → Decides is (IsHost of_family host entry)
+    → Decides is (IsHostsKey keys name entry)
 host-decides keys name of_family host entry is cascading parts =
     said is
     (λ key. inl (record {
@@ -65,14 +75,21 @@ host-decides keys name of_family host entry is cascading parts =
     (λ key. elim key as (λ _. IsHost of_family host entry) [
       | inl h ↦
           let same : of_family ∷ host ∷ [] ≡ family entry.value ∷ h.host ∷ [] = sym parts ∙ ap (λ (n : Name). n.parts) h.is_host in
-          record { same_family = cc; address = h.address; word = subst IsWord (the_second _ _ _ _ (sym same)) h.word; has_comments = record { are_comments = h.are_comments; few = h.few; one_line = h.one_line } }
+          record {
+            same_family = cc;
+            address = h.address;
+            word = subst IsWord (the_second _ _ _ _ (sym same)) h.word;
+            has_comments = record { are_comments = h.are_comments; few = h.few; one_line = h.one_line };
+          }
       | inr a ↦ let same : of_family ∷ host ∷ [] ≡ a.of_family ∷ a.host ∷ a.alias ∷ [] = sym parts ∙ ap (λ (n : Name). n.parts) a.is_alias in absurd cc
     ])
   where
     the_second : (p q r s : Part) → p ∷ q ∷ [] ≡ r ∷ s ∷ [] → q ≡ s
     the_second p q r s e = cc
 
-pub alias_key-decides : (keys : KeyMap) (name : Name) (of_family host alias : Part) (entry : Entry) (is : Bool) → name.namespace ≡ Cascading → name.parts ≡ of_family ∷ host ∷ alias ∷ [] → Decides is (IsAlias keys of_family host alias entry) → Decides is (IsHostsKey keys name entry)
+pub alias_key-decides : (keys : KeyMap) (name : Name) (of_family host alias : Part) (entry : Entry) (is : Bool)
+    → name.namespace ≡ Cascading → name.parts ≡ of_family ∷ host ∷ alias ∷ []
+    → Decides is (IsAlias keys of_family host alias entry) → Decides is (IsHostsKey keys name entry)
 alias_key-decides keys name of_family host alias entry is cascading parts =
     said is
     (λ key. inr (record {
@@ -92,5 +109,10 @@ alias_key-decides keys name of_family host alias entry is cascading parts =
           let family_is : a.of_family ≡ of_family = cc in
           let host_is : a.host ≡ host = cc in
           let alias_is : a.alias ≡ alias = cc in
-          record { word = subst IsWord alias_is a.word; plain = a.plain; host_entry = a.host_entry; found = ap (map.get keys) (λ i. host_name (sym family_is i) (sym host_is i)) ∙ a.found }
+          record {
+            word = subst IsWord alias_is a.word;
+            plain = a.plain;
+            host_entry = a.host_entry;
+            found = ap (map.get keys) (λ i. host_name (sym family_is i) (sym host_is i)) ∙ a.found;
+          }
     ])

@@ -17,8 +17,10 @@ use Rattle.hosts_storage.proofs.CommentUtf8.{comment-utf8}
 use Rattle.hosts_storage.proofs.WeighedLemmas.{with_aliases-of}
 
 -- a comment line is read as its comment
-pub comment-leads : (before : Progress) (line text : List ℕ) (after : code.Progress) (read : Bool) → IsUtf8 line → meaning line ≡ Comment text → LeadsBy (WithComment before text) after read → LeadsBy (Step before line) after read
-comment-leads before line text after true utf8 says h = (record { utf8 = utf8; does = subst (λ m. Does m before (progress_of after)) (sym says) h.0.added }, h.1)
+pub comment-leads : (before : Progress) (line text : List ℕ) (after : code.Progress) (read : Bool) → IsUtf8 line
+    → meaning line ≡ Comment text → LeadsBy (WithComment before text) after read → LeadsBy (Step before line) after read
+comment-leads before line text after true utf8 says h =
+    (record { utf8 = utf8; does = subst (λ m. Does m before (progress_of after)) (sym says) h.0.added }, h.1)
 comment-leads before line text after false utf8 says h =
     λ other step. h other (record { utf8 = comment-utf8 line text step.utf8 says; added = subst (λ m. Does m before other) says step.does })
 
@@ -33,9 +35,11 @@ module _ (before : Progress) (address host : List ℕ) (aliases : List (List ℕ
     pub few : length (with_own before.waiting own) ≤ last_index
 
   abbrev Puts : KeyMap → Type 0
-  Puts after = IsPut before.keys (host_name (family address) host) (host_entry address (with_own before.waiting own)) aliases after
+  Puts after =
+      IsPut before.keys (host_name (family address) host) (host_entry address (with_own before.waiting own)) aliases after
 
-  put-adds : Fits → (after : KeyMap) → Puts after → AddsHost before address host aliases own (record { keys = after; waiting = [] })
+  put-adds : Fits → (after : KeyMap) → Puts after
+      → AddsHost before address host aliases own (record { keys = after; waiting = [] })
   put-adds fits after put = record {
     is_new = fits.is_new;
     is_name = fits.is_name;
@@ -49,9 +53,12 @@ module _ (before : Progress) (address host : List ℕ) (aliases : List (List ℕ
   }
 
   adds-put : (after : Progress) → AddsHost before address host aliases own after → Puts after.keys
-  adds-put after adds = (ap (λ (p : Progress). p.keys) adds.added ∙ sym (with_aliases-of (family address) host aliases _), adds.are_names, adds.light)
+  adds-put after adds =
+      (ap (λ (p : Progress). p.keys) adds.added ∙ sym (with_aliases-of (family address) host aliases _), adds.are_names, adds.light)
 
-  pub host-leads : (after : code.Progress) (read : Bool) → Fits → after.waiting.items ≡ [] → PutsHost before.keys (host_name (family address) host) (host_entry address (with_own before.waiting own)) aliases after.found read
+  pub host-leads : (after : code.Progress) (read : Bool) → Fits → after.waiting.items ≡ []
+      → PutsHost before.keys (host_name (family address) host) (host_entry address (with_own before.waiting own)) aliases after.found read
       → LeadsBy (AddsHost before address host aliases own) after read
-  host-leads after true fits none h = (subst (λ ws. AddsHost before address host aliases own (record { keys = after.found.keys; waiting = ws })) (sym none) (put-adds fits after.found.keys h.0), h.1)
+  host-leads after true fits none h =
+      (subst (λ ws. AddsHost before address host aliases own (record { keys = after.found.keys; waiting = ws })) (sym none) (put-adds fits after.found.keys h.0), h.1)
   host-leads after false fits none h = λ other adds. h other.keys (adds-put other adds)

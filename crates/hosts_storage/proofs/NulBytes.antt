@@ -15,4 +15,5 @@ nul-found (b ∷ bytes) found all =
 
 pub nul-nowhere : (bytes : List ℕ) → list_any (λ b. b == 0) bytes ≡ false → AllByRecursion (λ b. 0 < b) bytes
 nul-nowhere [] none = tt
-nul-nowhere (b ∷ bytes) none = let parts = or_parts (b == 0) (list_any (λ b. b == 0) bytes) none in (positive b (eqb-false b 0 parts.0), nul-nowhere bytes parts.1)
+nul-nowhere (b ∷ bytes) none =
+    let parts = or_parts (b == 0) (list_any (λ b. b == 0) bytes) none in (positive b (eqb-false b 0 parts.0), nul-nowhere bytes parts.1)

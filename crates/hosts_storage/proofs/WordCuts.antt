@@ -15,12 +15,14 @@ IsFilledByte b = is_blank b ≡ false
 pub words-blank : (blank : ℕ) (rest : List ℕ) → is_blank blank ≡ true → words (blank ∷ rest) ≡ words rest
 words-blank blank rest is = ap (filter is_filled) (cond-true (is_blank blank) _ _ is)
 
-filter-front : (word : List ℕ) (rest : List (List ℕ)) → 0 < length word → filter is_filled (word ∷ rest) ≡ word ∷ filter is_filled rest
+filter-front : (word : List ℕ) (rest : List (List ℕ)) → 0 < length word
+    → filter is_filled (word ∷ rest) ≡ word ∷ filter is_filled rest
 filter-front [] rest some = absurd (omega arith)
 filter-front (b ∷ word) rest some = ap (λ ws. (b ∷ word) ∷ ws) (λ i. filter is_filled rest)
 
 -- a word ends at the first blank
-pub words-cut : (bytes : List ℕ) (at : ℕ) → 0 < at → at < length bytes → AllByRecursion IsFilledByte (take at bytes) → is_blank (get_or bytes at 0) ≡ true → words bytes ≡ take at bytes ∷ words (drop at bytes)
+pub words-cut : (bytes : List ℕ) (at : ℕ) → 0 < at → at < length bytes → AllByRecursion IsFilledByte (take at bytes)
+    → is_blank (get_or bytes at 0) ≡ true → words bytes ≡ take at bytes ∷ words (drop at bytes)
 words-cut bytes at some within filled blank =
     let front = take at bytes in
     let rest = drop (at + 1) bytes in
@@ -33,9 +35,12 @@ words-cut bytes at some within filled blank =
 
 -- or with the bytes
 pub words-whole : (word : List ℕ) → 0 < length word → AllByRecursion IsFilledByte word → words word ≡ word ∷ []
-words-whole word some filled = ap (filter is_filled) (slice_split_none is_blank word (All-from_recursion IsFilledByte word filled)) ∙ filter-front word [] some
+words-whole word some filled =
+    ap (filter is_filled) (slice_split_none is_blank word (All-from_recursion IsFilledByte word filled))
+    ∙ filter-front word [] some
 
 -- a blank stands behind a byte that isn't one
-pub blank-behind : (bytes : List ℕ) (at : ℕ) → is_blank (get_or bytes at 0) ≡ true → is_blank (get_or bytes 0 0) ≡ false → 0 < at
+pub blank-behind : (bytes : List ℕ) (at : ℕ) → is_blank (get_or bytes at 0) ≡ true → is_blank (get_or bytes 0 0) ≡ false
+    → 0 < at
 blank-behind bytes zero is not = absurd cc
 blank-behind bytes (suc at) is not = omega arith

@@ -7,5 +7,6 @@ use Rattle.hosts_storage.specs.declared.meanings.Meaning.TheVariants as found
 abbrev pub meaning_view : Found → Meaning
 meaning_view found.Skipped = Skipped
 meaning_view (found.Comment text) = Comment text.now
-meaning_view (found.Gives line) = Gives line.address.now line.host.now (words line.aliases.now) (option_map (λ comment. comment.now) line.own)
+meaning_view (found.Gives line) =
+    Gives line.address.now line.host.now (words line.aliases.now) (option_map (λ comment. comment.now) line.own)
 meaning_view found.Unreadable = Unreadable

@@ -23,7 +23,8 @@ pub record IsWeighed (found : Weighed) : Type 0 where
 -- a map with aliases of a host
 abbrev pub with_aliases_of : Name → List Part → KeyMap → KeyMap
 with_aliases_of host [] keys = keys
-with_aliases_of host (alias ∷ aliases) keys = with_aliases_of host aliases (map.insert keys (child_of host alias) (plain_entry []))
+with_aliases_of host (alias ∷ aliases) keys =
+    with_aliases_of host aliases (map.insert keys (child_of host alias) (plain_entry []))
 
 -- the names of aliases are names
 abbrev pub AreAliases : Name → List Part → Type 0
@@ -31,5 +32,6 @@ AreAliases host aliases = AllByRecursion (λ alias. IsName (child_of host alias)
 
 -- aliases were added, or one of them has no name
 abbrev pub AddsAliases : KeyMap → Name → List Part → Weighed → Bool → Type 0
-AddsAliases before host aliases after true = AreAliases host aliases × (after.keys ≡ with_aliases_of host aliases before) × IsWeighed after
+AddsAliases before host aliases after true =
+    AreAliases host aliases × (after.keys ≡ with_aliases_of host aliases before) × IsWeighed after
 AddsAliases before host aliases after false = AreAliases host aliases → ⊥

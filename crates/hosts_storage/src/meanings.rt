@@ -40,7 +40,8 @@ pub fn meaning_of(line: &[u8]) -> Meaning<'_>
 
 /// What words and a comment say.
 fn meaning_of_parts<'a>(front: &'a [u8], comment: Option<&'a [u8]>) -> Meaning<'a>
-    ensures { meaning_view result ≡ meaning_of_words (words front.now) (option_map (λ comment. comment.now) comment.entry) }
+    ensures { meaning_view result
+        ≡ meaning_of_words (words front.now) (option_map (λ comment. comment.now) comment.entry) }
 {
     let Some((address, behind)) = first_word(front) else {
         return match comment {

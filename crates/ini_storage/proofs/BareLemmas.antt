@@ -41,7 +41,8 @@ stands-bare b bare =
 covers : List ℕ → Bool
 covers text = list_any may_be_covered text
 
-signs-stand : (f : ℕ → Sign) → ((b : ℕ) → StandsBare b → f b ≡ Plain b) → (text : List ℕ) → covers text ≡ false → map f text ≡ map Plain text
+signs-stand : (f : ℕ → Sign) → ((b : ℕ) → StandsBare b → f b ≡ Plain b) → (text : List ℕ) → covers text ≡ false
+    → map f text ≡ map Plain text
 unfolding covers
 signs-stand f each [] bare = refl
 signs-stand f each (b ∷ text) bare =
@@ -52,27 +53,33 @@ last-stands : (text : List ℕ) → covers text ≡ false → at_last cover_blan
 unfolding covers
 last-stands [] bare = refl
 last-stands (b ∷ []) bare = ap (λ (s : Sign). s ∷ []) (stands-bare b (or_parts (may_be_covered b) _ bare).0).blank
-last-stands (b ∷ c ∷ text) bare = ap (λ (ss : List Sign). Plain b ∷ ss) (last-stands (c ∷ text) (or_parts (may_be_covered b) _ bare).1)
+last-stands (b ∷ c ∷ text) bare =
+    ap (λ (ss : List Sign). Plain b ∷ ss) (last-stands (c ∷ text) (or_parts (may_be_covered b) _ bare).1)
 
-first-stands : (f : Sign → Sign) → ((b : ℕ) → StandsBare b → f (Plain b) ≡ Plain b) → (text : List ℕ) → covers text ≡ false → at_first f (map Plain text) ≡ map Plain text
+first-stands : (f : Sign → Sign) → ((b : ℕ) → StandsBare b → f (Plain b) ≡ Plain b) → (text : List ℕ)
+    → covers text ≡ false → at_first f (map Plain text) ≡ map Plain text
 unfolding covers
 first-stands f each [] bare = refl
-first-stands f each (b ∷ text) bare = ap (λ (s : Sign). s ∷ map Plain text) (each b (stands-bare b (or_parts (may_be_covered b) _ bare).0))
+first-stands f each (b ∷ text) bare =
+    ap (λ (s : Sign). s ∷ map Plain text) (each b (stands-bare b (or_parts (may_be_covered b) _ bare).0))
 
 spelled-stand : (text : List ℕ) → flat_map spelled_sign (map Plain text) ≡ text
 spelled-stand [] = refl
 spelled-stand (b ∷ text) = ap (λ rest. b ∷ rest) (spelled-stand text)
 
 -- from the last sign on
-at_ends : (f : ℕ → Sign) → ((b : ℕ) → StandsBare b → f b ≡ Plain b) → (text : List ℕ) → covers text ≡ false → at_first cover_blank (at_last cover_blank (map f text)) ≡ map Plain text
+at_ends : (f : ℕ → Sign) → ((b : ℕ) → StandsBare b → f b ≡ Plain b) → (text : List ℕ) → covers text ≡ false
+    → at_first cover_blank (at_last cover_blank (map f text)) ≡ map Plain text
 at_ends f each text bare =
     ap (λ ss. at_first cover_blank (at_last cover_blank ss)) (signs-stand f each text bare)
     ∙ ap (at_first cover_blank) (last-stands text bare)
     ∙ first-stands cover_blank (λ b stands. stands.blank) text bare
 
-pub bare-text : (side : Side) (text : List ℕ) → list_any may_be_covered text ≡ false → flat_map spelled_sign (signs_at side text) ≡ text
+pub bare-text : (side : Side) (text : List ℕ) → list_any may_be_covered text ≡ false
+    → flat_map spelled_sign (signs_at side text) ≡ text
 unfolding covers
-bare-text sides.Value text bare = ap (flat_map spelled_sign) (at_ends value_sign (λ b stands. stands.value) text bare) ∙ spelled-stand text
+bare-text sides.Value text bare =
+    ap (flat_map spelled_sign) (at_ends value_sign (λ b stands. stands.value) text bare) ∙ spelled-stand text
 bare-text sides.Name text bare =
     ap (λ ss. flat_map spelled_sign (at_first cover_mark ss)) (at_ends name_sign (λ b stands. stands.name) text bare)
     ∙ ap (flat_map spelled_sign) (first-stands cover_mark (λ b stands. stands.mark) text bare)

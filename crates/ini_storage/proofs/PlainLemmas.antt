@@ -33,7 +33,8 @@ front-bare : (bs : List ℕ) → has_backslash bs ≡ false → has_backslash (w
 front-bare [] bare = bare
 front-bare (b ∷ bs) bare = by (is_blank_byte b) (front-bare bs (or_parts (b == 92) (has_backslash bs) bare).1)
   where
-    by : (t : Bool) → has_backslash (without_front is_blank_byte bs) ≡ false → has_backslash (cond t (without_front is_blank_byte bs) (b ∷ bs)) ≡ false
+    by : (t : Bool) → has_backslash (without_front is_blank_byte bs) ≡ false
+        → has_backslash (cond t (without_front is_blank_byte bs) (b ∷ bs)) ≡ false
     by true more = more
     by false more = bare
 
@@ -43,20 +44,23 @@ back-bare (b ∷ bs) bare =
     let parts = or_parts (b == 92) (has_backslash bs) bare in
     by (without_back is_blank_byte bs) (is_blank_byte b && (length (without_back is_blank_byte bs) == 0)) parts.0 (back-bare bs parts.1)
   where
-    by : (rest : List ℕ) (t : Bool) → (b == 92) ≡ false → has_backslash rest ≡ false → has_backslash (cond t [] (b ∷ rest)) ≡ false
+    by : (rest : List ℕ) (t : Bool) → (b == 92) ≡ false → has_backslash rest ≡ false
+        → has_backslash (cond t [] (b ∷ rest)) ≡ false
     by rest true other more = refl
     by rest false other more = neither (b == 92) (has_backslash rest) other more
 
 abbrev AreBare : List ℕ × List ℕ → Type 0
 AreBare sides = (has_backslash sides.0 ≡ false) × (has_backslash sides.1 ≡ false)
 
-cut-bare : (bs : List ℕ) → has_backslash bs ≡ false → (sides : List ℕ × List ℕ) → cut_at_byte bs ≡ Some sides → AreBare sides
+cut-bare : (bs : List ℕ) → has_backslash bs ≡ false → (sides : List ℕ × List ℕ) → cut_at_byte bs ≡ Some sides
+    → AreBare sides
 cut-bare [] bare sides found = absurd cc
 cut-bare (b ∷ bs) bare sides found =
     let parts = or_parts (b == 92) (has_backslash bs) bare in
     by (b == 61) (cut_at_byte bs) parts.0 parts.1 (cut-bare bs parts.1) found
   where
-    by : (t : Bool) (o : Option (List ℕ × List ℕ)) → (b == 92) ≡ false → has_backslash bs ≡ false → ((s : List ℕ × List ℕ) → o ≡ Some s → AreBare s)
+    by : (t : Bool) (o : Option (List ℕ × List ℕ)) → (b == 92) ≡ false → has_backslash bs ≡ false
+        → ((s : List ℕ × List ℕ) → o ≡ Some s → AreBare s)
         → cond t (Some ([], bs)) (option_map (λ (s : List ℕ × List ℕ). (b ∷ s.0, s.1)) o) ≡ Some sides → AreBare sides
     by true o other more each now = subst AreBare (found_once ([], bs) sides refl now) (refl, more)
     by false None other more each now = absurd cc
@@ -85,7 +89,8 @@ front-signs [] = refl
 front-signs (b ∷ bs) = by (is_blank_byte b) (front-signs bs)
   where
     by : (t : Bool) → without_front is_blank (map Plain bs) ≡ map Plain (without_front is_blank_byte bs)
-        → cond t (without_front is_blank (map Plain bs)) (Plain b ∷ map Plain bs) ≡ map Plain (cond t (without_front is_blank_byte bs) (b ∷ bs))
+        → cond t (without_front is_blank (map Plain bs)) (Plain b ∷ map Plain bs)
+        ≡ map Plain (cond t (without_front is_blank_byte bs) (b ∷ bs))
     by true more = more
     by false more = refl
 
@@ -112,7 +117,8 @@ cut-signs (b ∷ bs) =
     ap (λ (o : Option (List Sign × List Sign)). cond (b == 61) (Some ([], map Plain bs)) (option_map (λ s. (Plain b ∷ s.0, s.1)) o)) (cut-signs bs)
     ∙ by (b == 61) (cut_at_byte bs)
   where
-    by : (t : Bool) (o : Option (List ℕ × List ℕ)) → cond t (Some ([], map Plain bs)) (option_map (λ s. (Plain b ∷ s.0, s.1)) (option_map side_signs o))
+    by : (t : Bool) (o : Option (List ℕ × List ℕ))
+        → cond t (Some ([], map Plain bs)) (option_map (λ s. (Plain b ∷ s.0, s.1)) (option_map side_signs o))
         ≡ option_map side_signs (cond t (Some ([], bs)) (option_map (λ s. (b ∷ s.0, s.1)) o))
     by true o = refl
     by false None = refl
@@ -135,10 +141,12 @@ two_sides bs bare sides found =
     let bare_sides = cut-bare bs bare sides found in
     sym (ap meaning_of_sides (cut-signs bs ∙ ap (option_map side_signs) found) ∙ ap₂ pair_of (side-text sides.0 bare_sides.0) (side-text sides.1 bare_sides.1))
 
-pub bare_behind : (line : List ℕ) → has_backslash line ≡ false → has_backslash (without_front is_blank_byte (without_return line)) ≡ false
+pub bare_behind : (line : List ℕ) → has_backslash line ≡ false
+    → has_backslash (without_front is_blank_byte (without_return line)) ≡ false
 bare_behind line bare = front-bare (without_return line) (return-bare line bare)
 
-pub bare_meaning : (line : List ℕ) → has_backslash line ≡ false → meaning_behind_blanks (map Plain (without_front is_blank_byte (without_return line))) ≡ meaning line
+pub bare_meaning : (line : List ℕ) → has_backslash line ≡ false
+    → meaning_behind_blanks (map Plain (without_front is_blank_byte (without_return line))) ≡ meaning line
 bare_meaning line bare =
     let said : List ℕ = without_return line in
     sym (ap (λ ss. meaning_behind_blanks (without_front is_blank ss)) (signs-bare said (return-bare line bare)) ∙ ap meaning_behind_blanks (front-signs said))

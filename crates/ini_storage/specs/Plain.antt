@@ -20,11 +20,13 @@ trimmed_bytes side = without_back is_blank_byte (without_front is_blank_byte sid
 -- bytes cut at their first equals sign, if there is one
 abbrev pub cut_at_byte : List ℕ → Option (List ℕ × List ℕ)
 cut_at_byte [] = None
-cut_at_byte (b ∷ rest) = if b == 61 then Some ([], rest) else option_map (λ sides. (b ∷ sides.0, sides.1)) (cut_at_byte rest)
+cut_at_byte (b ∷ rest) =
+    if b == 61 then Some ([], rest) else option_map (λ sides. (b ∷ sides.0, sides.1)) (cut_at_byte rest)
 
 -- a byte that is covered at some place of a line, on one side or both
 abbrev pub may_be_covered : ℕ → Bool
-may_be_covered b = (b == 92) || ((b == 10) || ((b == 13) || ((b == 9) || ((b == 61) || ((b == 32) || ((b == 35) || (b == 59) || (b == 91)))))))
+may_be_covered b =
+    (b == 92) || ((b == 10) || ((b == 13) || ((b == 9) || ((b == 61) || ((b == 32) || ((b == 35) || (b == 59) || (b == 91)))))))
 
 -- what the code says of such a line, as the definitions have it
 abbrev pub plain_view : Plainly → Meaning

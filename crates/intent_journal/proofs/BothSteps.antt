@@ -42,17 +42,20 @@ some_any entry entries =
 
 pub any_both : (former list : List (List FileText)) → (has_any former || has_any list) ≡ has_any (former ++ list)
 any_both [] list = refl
-any_both (entry ∷ former) list = ap (λ (b : Bool). b || has_any list) (some_any entry former) ∙ sym (some_any entry (former ++ list))
+any_both (entry ∷ former) list =
+    ap (λ (b : Bool). b || has_any list) (some_any entry former) ∙ sym (some_any entry (former ++ list))
 
 -- moments of two parts
-moments_both : {D : Type 0} (g : Ghosts D) (old mid new : D) (P : Image → Type 0) → g.moment old ≤ g.moment mid → LeavesOnly g old mid P → LeavesOnly g mid new P → LeavesOnly g old new P
+moments_both : {D : Type 0} (g : Ghosts D) (old mid new : D) (P : Image → Type 0) → g.moment old ≤ g.moment mid
+    → LeavesOnly g old mid P → LeavesOnly g mid new P → LeavesOnly g old new P
 moments_both g old mid new P later first second = record {
   each = λ image left. elim (second.earlier (g.moment old) image later left) [ inl was ↦ first.each image was | inr has ↦ has ];
   earlier = else_both _ _ _ _ _ P first.earlier later second.earlier;
 }
 
 -- what stays found of a disk in two parts
-stays_both : {D : Type 0} (g : Ghosts D) (old mid new : D) → g.tells mid ≡ true → StaysFound g old mid → OnlyReads g mid new ⊎ StaysFound g mid new → StaysFound g old new
+stays_both : {D : Type 0} (g : Ghosts D) (old mid new : D) → g.tells mid ≡ true → StaysFound g old mid
+    → OnlyReads g mid new ⊎ StaysFound g mid new → StaysFound g old new
 stays_both g old mid new told first (inl reads) =
     subst (λ (s : Image). SameFiles (opened_files s) (opened_files (g.seen old)) → SameFiles s (g.seen old) ⊎ SameFiles s (opened_files (g.seen old)) → StaysFound g old new) (reads.same told)
     (λ found shown. record { found = found; shown = shown }) first.found first.shown
@@ -73,19 +76,23 @@ module _ {D : Type 0} (g : Ghosts D) (old mid : D) (former : List (List FileText
   told = retires.goes.tells ∙ tells
 
   -- the files with entries of both
-  joined : (list : List (List FileText)) → SameFiles (with_entries (g.seen old) (former ++ list)) (with_entries (g.seen mid) list)
+  joined : (list : List (List FileText))
+      → SameFiles (with_entries (g.seen old) (former ++ list)) (with_entries (g.seen mid) list)
   joined list file own =
       ap (λ (f : Image). f file) (with_entries-append former list (g.seen old))
       ∙ with_entries-same list (with_entries (g.seen old) former) (g.seen mid) file (sym (retires.files tells file own))
 
   -- what is found then
-  pub found_both : (behind : Result (List (List FileText)) JournalFault) → journal_in (g.seen mid journal2_name) ≡ behind → found_in (g.seen old) ≡ with_former (Ok former) behind
+  pub found_both : (behind : Result (List (List FileText)) JournalFault)
+      → journal_in (g.seen mid journal2_name) ≡ behind → found_in (g.seen old) ≡ with_former (Ok former) behind
   found_both behind is =
       ap₂ (λ (a b : Result (List (List FileText)) JournalFault). with_former a b) (retires.good tells)
       (ap (λ (c : List ℕ). journal_in c) (sym (retires.journal tells)) ∙ is)
 
-  found_mid : (behind : Result (List (List FileText)) JournalFault) → journal_in (g.seen mid journal2_name) ≡ behind → found_in (g.seen mid) ≡ with_former (Ok []) behind
-  found_mid behind is = ap₂ (λ (a b : Result (List (List FileText)) JournalFault). with_former a b) (retires.closed tells) is
+  found_mid : (behind : Result (List (List FileText)) JournalFault) → journal_in (g.seen mid journal2_name) ≡ behind
+      → found_in (g.seen mid) ≡ with_former (Ok []) behind
+  found_mid behind is =
+      ap₂ (λ (a b : Result (List (List FileText)) JournalFault). with_former a b) (retires.closed tells) is
 
   -- where `journal2` can be read, the retiring leaves what an opening finds
   module _ (files : Image) (doubt : Option (List FileText)) (calm : IsCalm (g.seen old) (g.may_leave old) files doubt) where
@@ -106,30 +113,36 @@ module _ {D : Type 0} (g : Ghosts D) (old mid : D) (former : List (List FileText
         let opened_old = ap entries_found (found_both (Ok list) is) in
         record {
           found = λ file own.
-              ap (λ (es : List (List FileText)). with_entries (g.seen mid) es file) opened_mid ∙ sym (joined list file own)
+              ap (λ (es : List (List FileText)). with_entries (g.seen mid) es file) opened_mid
+              ∙ sym (joined list file own)
               ∙ sym (ap (λ (es : List (List FileText)). with_entries (g.seen old) es file) opened_old);
           shown = by former refl;
         }
       where
-        by : (entries : List (List FileText)) → former ≡ entries → SameFiles (g.seen mid) (g.seen old) ⊎ SameFiles (g.seen mid) (opened_files (g.seen old))
-        by [] none = inl (λ file own. retires.files tells file own ∙ ap (λ (es : List (List FileText)). with_entries (g.seen old) es file) none)
+        by : (entries : List (List FileText)) → former ≡ entries
+            → SameFiles (g.seen mid) (g.seen old) ⊎ SameFiles (g.seen mid) (opened_files (g.seen old))
+        by [] none =
+            inl (λ file own. retires.files tells file own ∙ ap (λ (es : List (List FileText)). with_entries (g.seen old) es file) none)
         by (entry ∷ entries) some =
             let empty : list ≡ [] = alone list is (λ none. let both = sym some ∙ none in cc) in
             inr (λ file own.
-            ap (λ (es : List (List FileText)). with_entries (g.seen mid) es file) (sym empty) ∙ sym (joined list file own)
+            ap (λ (es : List (List FileText)). with_entries (g.seen mid) es file) (sym empty)
+            ∙ sym (joined list file own)
             ∙ sym (ap (λ (es : List (List FileText)). with_entries (g.seen old) es file) (ap entries_found (found_both (Ok list) is))))
 
     pub stays_mid : StaysFound g old mid
     stays_mid = by (journal_in (g.seen mid journal2_name)) refl
       where
-        by : (behind : Result (List (List FileText)) JournalFault) → journal_in (g.seen mid journal2_name) ≡ behind → StaysFound g old mid
+        by : (behind : Result (List (List FileText)) JournalFault) → journal_in (g.seen mid journal2_name) ≡ behind
+            → StaysFound g old mid
         by (Ok list) is = stays_with list is
         by (Err fault) is =
             absurd (calm_mid.not_broken (g.seen mid) (λ file own. g.read_is_image mid told file) (inr (inl (journal_breaks (g.seen mid journal2_name) fault is))))
 
     module _ (new : D) where
       -- `journal2` was opened then
-      pub both_opened : (list : List (List FileText)) → journal_in (g.seen mid journal2_name) ≡ Ok list → (list ≡ [] → OnlyReads g mid new) → OpensCalm g mid new (Ok list) files doubt
+      pub both_opened : (list : List (List FileText)) → journal_in (g.seen mid journal2_name) ≡ Ok list
+          → (list ≡ [] → OnlyReads g mid new) → OpensCalm g mid new (Ok list) files doubt
           → OpensCalm g old new (Ok (former ++ list)) files doubt
       both_opened list is reads opens = record {
         files = either_same files (with_entries (g.seen mid) list) (with_entries (g.seen old) (former ++ list)) doubt (joined list) opens.files;
@@ -140,10 +153,14 @@ module _ {D : Type 0} (g : Ghosts D) (old mid : D) (former : List (List FileText
         any_moment = moments_both g old mid new (HasOnly (IsEither files doubt)) retires.goes.moment left.any_moment opens.any_moment;
       }
         where
-          moved : (later : Option (List FileText)) → IsHeadInDoubt (g.may_leave new) (with_entries (g.seen mid) list) later → IsHeadInDoubt (g.may_leave new) (with_entries (g.seen old) (former ++ list)) later
-          moved later = moved_doubt (g.may_leave new) (with_entries (g.seen mid) list) (with_entries (g.seen old) (former ++ list)) later (joined list)
+          moved : (later : Option (List FileText))
+              → IsHeadInDoubt (g.may_leave new) (with_entries (g.seen mid) list) later
+              → IsHeadInDoubt (g.may_leave new) (with_entries (g.seen old) (former ++ list)) later
+          moved later =
+              moved_doubt (g.may_leave new) (with_entries (g.seen mid) list) (with_entries (g.seen old) (former ++ list)) later (joined list)
 
-          by : (entries : List (List FileText)) → former ≡ entries → IsOpened (g.may_leave new) (with_entries (g.seen old) (former ++ list)) (former ++ list)
+          by : (entries : List (List FileText)) → former ≡ entries
+              → IsOpened (g.may_leave new) (with_entries (g.seen old) (former ++ list)) (former ++ list)
           by [] none = record {
             later = opens.opened.later;
             sure = λ some. opens.opened.sure (λ empty. some (ap₂ (λ (a b : List (List FileText)). a ++ b) none empty));
@@ -160,7 +177,8 @@ module _ {D : Type 0} (g : Ghosts D) (old mid : D) (former : List (List FileText
               }
 
       -- or refused
-      pub both_refused : (fault : JournalFault) → OpensCalm g mid new (Err fault) files doubt → OpensCalm g old new (Err fault) files doubt
+      pub both_refused : (fault : JournalFault) → OpensCalm g mid new (Err fault) files doubt
+          → OpensCalm g old new (Err fault) files doubt
       both_refused fault opens = record {
         files = tt;
         opened = tt;
@@ -172,12 +190,14 @@ module _ {D : Type 0} (g : Ghosts D) (old mid : D) (former : List (List FileText
 
 -- ---- what an opening answers
 
-pub refused_entries : (fault : JournalFault) (result : Result (Vec (List FileText) × Vec (List FileText)) JournalFault) → IsErrAnd result (λ e. e ≡ fault) → entries_of result ≡ Err fault
+pub refused_entries : (fault : JournalFault) (result : Result (Vec (List FileText) × Vec (List FileText)) JournalFault)
+    → IsErrAnd result (λ e. e ≡ fault) → entries_of result ≡ Err fault
 refused_entries fault (Ok lists) err = absurd err
 refused_entries fault (Err e) err = ap Err err
 
 -- a former journal that wasn't retired
-pub opens_unretired : {D : Type 0} (g : Ghosts D) (old new : D) (fault : JournalFault) → RetiresFormer g old new (Err fault) → OpensList g old new (Err fault)
+pub opens_unretired : {D : Type 0} (g : Ghosts D) (old new : D) (fault : JournalFault)
+    → RetiresFormer g old new (Err fault) → OpensList g old new (Err fault)
 opens_unretired g old new fault retires = record {
   entries = tt;
   good = λ tells. tt;
@@ -207,13 +227,17 @@ opens_unretired g old new fault retires = record {
   cause = retires.cause;
 }
   where
-    refused : {other : JournalFault} → former_in (g.seen old journal_name) ≡ Err other → found_in (g.seen old) ≡ Err other
-    refused is = ap (λ (r : Result (List (List FileText)) JournalFault). with_former r (journal_in (g.seen old journal2_name))) is
+    refused : {other : JournalFault} → former_in (g.seen old journal_name) ≡ Err other
+        → found_in (g.seen old) ≡ Err other
+    refused is =
+        ap (λ (r : Result (List (List FileText)) JournalFault). with_former r (journal_in (g.seen old journal2_name))) is
 
-    by : (other : JournalFault) → fault ≡ other → g.tells old ≡ true → ¬ IsKept (g.seen old) → fault ≢ DiskFault → fault ≢ Memory → ⊥
+    by : (other : JournalFault) → fault ≡ other → g.tells old ≡ true → ¬ IsKept (g.seen old) → fault ≢ DiskFault
+        → fault ≢ Memory → ⊥
     by DiskFault is tells not_kept not_disk not_memory = not_disk is
     by Memory is tells not_kept not_disk not_memory = not_memory is
-    by (BadJournal at) is tells not_kept not_disk not_memory = not_kept (inr (BadJournal at, retires.bad tells at (ap Err is)))
+    by (BadJournal at) is tells not_kept not_disk not_memory =
+        not_kept (inr (BadJournal at, retires.bad tells at (ap Err is)))
     by (UnknownVersion version) is tells not_kept not_disk not_memory = retires.known version (ap Err is)
 
 module _ {D : Type 0} (g : Ghosts D) (old mid new : D) (former : List (List FileText)) (retires : RetiresFormer g old mid (Ok former)) where
@@ -225,14 +249,16 @@ module _ {D : Type 0} (g : Ghosts D) (old mid new : D) (former : List (List File
   not_refused tells fault is = let both = sym (retires.good tells) ∙ is in cc
 
   -- where an opening finds nothing, `journal2` has no open entry, or it is refused
-  reads_none : (behind : Result (List (List FileText)) JournalFault) → OpensBehind g mid new behind → g.tells old ≡ true → open_list (g.seen old) ≡ [] → OnlyReads g mid new
+  reads_none : (behind : Result (List (List FileText)) JournalFault) → OpensBehind g mid new behind → g.tells old ≡ true
+      → open_list (g.seen old) ≡ [] → OnlyReads g mid new
   reads_none behind opens tells none = by (journal_in (g.seen mid journal2_name)) refl
     where
       no_more : (entries list : List (List FileText)) → entries ++ list ≡ [] → list ≡ []
       no_more [] list is = is
       no_more (entry ∷ entries) list is = absurd (cc)
 
-      by : (found : Result (List (List FileText)) JournalFault) → journal_in (g.seen mid journal2_name) ≡ found → OnlyReads g mid new
+      by : (found : Result (List (List FileText)) JournalFault) → journal_in (g.seen mid journal2_name) ≡ found
+          → OnlyReads g mid new
       by (Err fault) is = opens.stays (told_mid tells) fault is
       by (Ok list) is =
           let all = sym (ap entries_found (found_both g old mid former retires tells (Ok list) is)) ∙ none in
@@ -240,7 +266,8 @@ module _ {D : Type 0} (g : Ghosts D) (old mid new : D) (former : List (List File
           opens.none (told_mid tells) (is ∙ ap (λ (es : List (List FileText)). Ok es) empty)
 
   -- `journal2` was opened
-  pub opens_both : (list : List (List FileText)) → OpensBehind g mid new (Ok list) → OpensList g old new (Ok (former ++ list))
+  pub opens_both : (list : List (List FileText)) → OpensBehind g mid new (Ok list)
+      → OpensList g old new (Ok (former ++ list))
   opens_both list opens = record {
     entries = all_append IsEntry former list retires.entries opens.entries;
     good = λ tells. found_both g old mid former retires tells (Ok list) (opens.good (told_mid tells));
@@ -269,7 +296,8 @@ module _ {D : Type 0} (g : Ghosts D) (old mid new : D) (former : List (List File
   }
 
   -- or refused
-  pub opens_refused_behind : (fault : JournalFault) → OpensBehind g mid new (Err fault) → OpensList g old new (Err fault)
+  pub opens_refused_behind : (fault : JournalFault) → OpensBehind g mid new (Err fault)
+      → OpensList g old new (Err fault)
   opens_refused_behind fault opens = record {
     entries = tt;
     good = λ tells. tt;
@@ -304,10 +332,12 @@ module _ {D : Type 0} (g : Ghosts D) (old mid new : D) (former : List (List File
     cause = λ is. risen_since (g.faults old) (g.faults mid) (g.faults new) retires.goes.later (opens.cause is);
   }
     where
-      by : (tells : g.tells old ≡ true) (other : JournalFault) → found_in (g.seen old) ≡ Err other → (found : Result (List (List FileText)) JournalFault) → journal_in (g.seen mid journal2_name) ≡ found
+      by : (tells : g.tells old ≡ true) (other : JournalFault) → found_in (g.seen old) ≡ Err other
+          → (found : Result (List (List FileText)) JournalFault) → journal_in (g.seen mid journal2_name) ≡ found
           → OnlyReads g mid new
       by tells other refused (Err third) is = opens.stays (told_mid tells) third is
-      by tells other refused (Ok list) is = absurd (let both = sym (found_both g old mid former retires tells (Ok list) is) ∙ refused in cc)
+      by tells other refused (Ok list) is =
+          absurd (let both = sym (found_both g old mid former retires tells (Ok list) is) ∙ refused in cc)
 
 -- where memory was out before the disk was read
 pub opens_memory : {D : Type 0} (g : Ghosts D) (disk : D) → OpensList g disk disk (Err Memory)
@@ -315,7 +345,8 @@ opens_memory g disk =
     opens_unretired g disk disk Memory (retires_refused g disk disk (OnlyReads-none g disk) Memory (λ tells at is. absurd (cc)) (λ version is. absurd (cc)) (λ is. absurd (cc)))
 
 -- a journal as its opening leaves it
-pub sound_fresh : (tells : Bool) (leaves : List ℕ → List ℕ → Type 0) (name : List ℕ) (list : List (List FileText)) (room : ℕ) → name ≡ journal2_name → list ≡ [] → most_entries ≤ room
+pub sound_fresh : (tells : Bool) (leaves : List ℕ → List ℕ → Type 0) (name : List ℕ) (list : List (List FileText))
+    (room : ℕ) → name ≡ journal2_name → list ≡ [] → most_entries ≤ room
     → IsSound tells leaves name 0 false 0 list true room
 sound_fresh tells leaves name list room named none spare =
     subst (λ (entries : List (List FileText)). IsSound tells leaves name 0 false 0 entries true room) (sym none) (record {

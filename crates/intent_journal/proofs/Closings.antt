@@ -33,11 +33,13 @@ pub record IsListAt (c : List ℕ) (at : ℕ) : Type 0 where
   pub there : at ≤ length c
 
 -- a list with entries whose place was read stands there
-pub stands_at : (c : List ℕ) (at : ℕ) (list : List (List FileText)) → BeginsAt c at → OpensJournal c list → list ≢ [] → IsListAt c at
+pub stands_at : (c : List ℕ) (at : ℕ) (list : List (List FileText)) → BeginsAt c at → OpensJournal c list → list ≢ []
+    → IsListAt c at
 stands_at c at [] begins opens some = absurd (some refl)
 stands_at c at (entry ∷ list) begins opens some = by opens (first_gate c at entry list begins opens)
   where
-    by : OpensJournal c (entry ∷ list) → (behind : OpensBehindHead c (entry ∷ list)) × (at ≡ front_size behind.names) → IsListAt c at
+    by : OpensJournal c (entry ∷ list) → (behind : OpensBehindHead c (entry ∷ list)) × (at ≡ front_size behind.names)
+        → IsListAt c at
     by (inl headless) found = absurd (let none = headless.1 in cc)
     by (inr (headed, other)) found =
         let behind = found.0 in
@@ -55,7 +57,9 @@ stands_at c at (entry ∷ list) begins opens some = by opens (first_gate c at en
 six : (front_is : ℕ) (c now : List ℕ) → 6 ≤ front_is → take front_is now ≡ take front_is c → take 6 now ≡ take 6 c
 six front_is c now long same = sym (take-take 6 front_is now long) ∙ ap (take 6) same ∙ take-take 6 front_is c long
 
-pub head_front : (c now : List ℕ) (names : List (List ℕ)) → IsHead c names → header_size c ≡ length (spelled_header names) → take (front_size names) now ≡ take (front_size names) c → IsHead now names
+pub head_front : (c now : List ℕ) (names : List (List ℕ)) → IsHead c names
+    → header_size c ≡ length (spelled_header names) → take (front_size names) now ≡ take (front_size names) c
+    → IsHead now names
 head_front c now names head sized same =
     let q = front_size names in
     let first = six q c now (omega arith) same in
@@ -63,7 +67,8 @@ head_front c now names head sized same =
     let n = header_size c in
     let ends : head_start + n ≡ q = ap (λ (k : ℕ). head_start + k) sized in
     let there : take n (drop head_start now) ≡ header_of c =
-    sym (drop-take head_start n now) ∙ ap (λ (k : ℕ). drop head_start (take k now)) ends ∙ ap (drop head_start) same ∙ sym (ap (λ (k : ℕ). drop head_start (take k c)) ends)
+    sym (drop-take head_start n now) ∙ ap (λ (k : ℕ). drop head_start (take k now)) ends ∙ ap (drop head_start) same
+    ∙ sym (ap (λ (k : ℕ). drop head_start (take k c)) ends)
     ∙ drop-take head_start n c in
     record {
       version = sym (get_or-take 6 now 1 0 (omega arith)) ∙ ap (λ (l : List ℕ). get_or l 1 0) first ∙ get_or-take 6 c 1 0 (omega arith) ∙ head.version;
@@ -75,7 +80,8 @@ head_front c now names head sized same =
 -- a journal whose list's first gate was closed, or that was torn meanwhile
 module _ (c now : List ℕ) (at : ℕ) (stands : IsListAt c at) (torn : IsTornWrite at (0 ∷ []) c now) where
   head_now : IsHead now stands.names
-  head_now = head_front c now stands.names stands.head stands.sized (subst (λ (n : ℕ). take n now ≡ take n c) stands.at_is torn.front)
+  head_now =
+      head_front c now stands.names stands.head stands.sized (subst (λ (n : ℕ). take n now ≡ take n c) stands.at_is torn.front)
 
   list_torn : IsTornWrite 0 (0 ∷ []) (drop (front_size stands.names) c) (drop (front_size stands.names) now)
   list_torn =
@@ -88,7 +94,8 @@ module _ (c now : List ℕ) (at : ℕ) (stands : IsListAt c at) (torn : IsTornWr
       subst (λ (n : ℕ). IsTornWrite 0 (0 ∷ []) (drop n c) (drop n now)) stands.at_is (subst (λ (l : List ℕ). IsTornWrite 0 (0 ∷ []) rest l) (sym here) behind.2)
 
   -- the list that another head names is that one
-  reads_there : (entries : List (List FileText)) → ReadsBehindHead now entries → ReadsFrom (listed stands.names) 0 0 (drop (front_size stands.names) now) entries
+  reads_there : (entries : List (List FileText)) → ReadsBehindHead now entries
+      → ReadsFrom (listed stands.names) 0 0 (drop (front_size stands.names) now) entries
   reads_there entries behind =
       let same : behind.names ≡ stands.names = same_names now stands.names behind.names head_now behind.head in
       subst (λ (names : List (List ℕ)). ReadsFrom (listed names) 0 0 (drop (front_size names) now) entries) same behind.reads
@@ -112,7 +119,9 @@ module _ (c now : List ℕ) (at : ℕ) (stands : IsListAt c at) (torn : IsTornWr
         }),
       )
 
-  was_read : (entries : List (List FileText)) → ReadsFrom (listed stands.names) 0 0 (drop (front_size stands.names) now) entries → (entries ≡ []) ⊎ ReadsJournal c entries
+  was_read : (entries : List (List FileText))
+      → ReadsFrom (listed stands.names) 0 0 (drop (front_size stands.names) now) entries
+      → (entries ≡ []) ⊎ ReadsJournal c entries
   was_read [] reads = inl refl
   was_read (entry ∷ entries) reads =
       inr (inr (
@@ -124,7 +133,8 @@ module _ (c now : List ℕ) (at : ℕ) (stands : IsListAt c at) (torn : IsTornWr
         },
       ))
 
-  pub closing_reads_any : (entries : List (List FileText)) → ReadsJournal now entries → (entries ≡ []) ⊎ ReadsJournal c entries
+  pub closing_reads_any : (entries : List (List FileText)) → ReadsJournal now entries
+      → (entries ≡ []) ⊎ ReadsJournal c entries
   closing_reads_any entries (inl headless) = inl headless.1
   closing_reads_any entries (inr headed) = was_read entries (reads_there entries headed.1)
 
@@ -134,13 +144,16 @@ module _ (c now : List ℕ) (at : ℕ) (stands : IsListAt c at) (torn : IsTornWr
     where
       unbroken : ¬ BreaksJournal now
       unbroken (headed, inl never) = never stands.names head_now
-      unbroken (headed, inr behind) = closed_not_broken (listed stands.names) 0 0 (drop (front_size stands.names) now) closed (breaks_there behind)
+      unbroken (headed, inr behind) =
+          closed_not_broken (listed stands.names) 0 0 (drop (front_size stands.names) now) closed (breaks_there behind)
 
       none : (more : List (List FileText)) → ReadsJournal now more → more ≡ []
       none more (inl headless) = headless.1
-      none more (inr headed) = reads_closed (listed stands.names) 0 0 (drop (front_size stands.names) now) more closed (reads_there more headed.1)
+      none more (inr headed) =
+          reads_closed (listed stands.names) 0 0 (drop (front_size stands.names) now) more closed (reads_there more headed.1)
 
-pub closing_reads_journal : (c now : List ℕ) (at : ℕ) (entries : List (List FileText)) → IsListAt c at → IsTornWrite at (0 ∷ []) c now → ReadsJournal now entries → (entries ≡ []) ⊎ ReadsJournal c entries
+pub closing_reads_journal : (c now : List ℕ) (at : ℕ) (entries : List (List FileText)) → IsListAt c at
+    → IsTornWrite at (0 ∷ []) c now → ReadsJournal now entries → (entries ≡ []) ⊎ ReadsJournal c entries
 closing_reads_journal c now at entries stands torn reads = closing_reads_any c now at stands torn entries reads
 
 pub closed_holds_none : (c : List ℕ) (at : ℕ) → IsListAt c at → HoldsNone (written c at (0 ∷ []))

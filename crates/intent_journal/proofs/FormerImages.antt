@@ -38,19 +38,32 @@ module _ (image : Image) (short : length (image journal2_name) < head_start) whe
       subst (λ (es : List (List FileText)). ReadsFormer (image journal_name) es) (sym same) reads.former
 
   pub reads_former : (entries : List (List FileText)) → ReadsFormer (image journal_name) entries → ReadsAs image entries
-  reads_former entries reads = record { before = entries; behind = []; are = sym (append-nil entries); former = reads; journal = inl (inl short, refl) }
+  reads_former entries reads =
+      record {
+        before = entries;
+        behind = [];
+        are = sym (append-nil entries);
+        former = reads;
+        journal = inl (inl short, refl);
+      }
 
   pub former_broken : IsBroken image → BreaksFormer (image journal_name)
   former_broken (inl broken) = broken
   former_broken (inr (inl broken)) = absurd (headless_not_broken (image journal2_name) short broken)
-  former_broken (inr (inr both)) = absurd (let none = headless_reads (image journal2_name) short (both.first ∷ both.more) both.journal in cc)
+  former_broken (inr (inr both)) =
+      absurd (let none = headless_reads (image journal2_name) short (both.first ∷ both.more) both.journal in cc)
 
-  pub former_outcome : (files : Image) → HasOutcome image files → (entries : List (List FileText)) × ReadsFormer (image journal_name) entries × SameFiles files (with_entries image entries)
+  pub former_outcome : (files : Image) → HasOutcome image files
+      → (entries : List (List FileText)) × ReadsFormer (image journal_name) entries
+      × SameFiles files (with_entries image entries)
   former_outcome files has = (has.0, former_reads has.0 has.1, has.2)
 
-  pub outcome_former : (files : Image) → ((entries : List (List FileText)) × ReadsFormer (image journal_name) entries × SameFiles files (with_entries image entries)) → HasOutcome image files
+  pub outcome_former : (files : Image)
+      → ((entries : List (List FileText)) × ReadsFormer (image journal_name) entries × SameFiles files (with_entries image entries))
+      → HasOutcome image files
   outcome_former files has = (has.0, reads_former has.0 has.1, has.2)
 
   pub former_found : found_in image ≡ former_in (image journal_name)
   former_found =
-      ap (λ (r : Result (List (List FileText)) JournalFault). with_former (former_in (image journal_name)) r) (headless_in (image journal2_name) short) ∙ with_none (former_in (image journal_name))
+      ap (λ (r : Result (List (List FileText)) JournalFault). with_former (former_in (image journal_name)) r) (headless_in (image journal2_name) short)
+      ∙ with_none (former_in (image journal_name))

@@ -19,12 +19,16 @@ use Rattle.intent_journal.proofs.Entries.{with_entries-append, with_entries-unli
 use Rattle.intent_journal.proofs.Retired.{retired_shut, shut_reads, shut_not_broken}
 
 -- no more entries leave the files as they are
-pub nothing_more : (files : Image) (doubt : Option (List FileText)) (more : List (List FileText)) → more ≡ [] → IsEither files doubt (with_entries files more)
-nothing_more files doubt more none = subst (λ (es : List (List FileText)). IsEither files doubt (with_entries files es)) (sym none) (inl (λ file own. refl))
+pub nothing_more : (files : Image) (doubt : Option (List FileText)) (more : List (List FileText)) → more ≡ []
+    → IsEither files doubt (with_entries files more)
+nothing_more files doubt more none =
+    subst (λ (es : List (List FileText)). IsEither files doubt (with_entries files es)) (sym none) (inl (λ file own. refl))
 
 -- where the former journal is shut an image stands for what its journal makes of it
-pub only_from : (files image : Image) (doubt : Option (List FileText)) → IsShut (image journal_name) → ¬ BreaksJournal (image journal2_name)
-    → ((entries : List (List FileText)) → ReadsJournal (image journal2_name) entries → IsEither files doubt (with_entries image entries)) → HasOnly (IsEither files doubt) image
+pub only_from : (files image : Image) (doubt : Option (List FileText)) → IsShut (image journal_name)
+    → ¬ BreaksJournal (image journal2_name)
+    → ((entries : List (List FileText)) → ReadsJournal (image journal2_name) entries → IsEither files doubt (with_entries image entries))
+    → HasOnly (IsEither files doubt) image
 only_from files image doubt shut whole gives = record {
   not_broken = unbroken;
   each = λ outcome has.
@@ -38,7 +42,8 @@ only_from files image doubt shut whole gives = record {
     unbroken : ¬ IsBroken image
     unbroken (inl former) = shut_not_broken (image journal_name) shut former
     unbroken (inr (inl journal)) = whole journal
-    unbroken (inr (inr both)) = let none = shut_reads (image journal_name) (both.one ∷ both.others) shut both.former in absurd (cc)
+    unbroken (inr (inr both)) =
+        let none = shut_reads (image journal_name) (both.one ∷ both.others) shut both.former in absurd (cc)
 
 -- ---- a journal that begins with a head
 
@@ -54,7 +59,8 @@ module _ (names : List (List ℕ)) (header : IsHeader names) (c behind : List �
   not_headless (inr shut) = shut (ap gate begins)
 
   -- what it reads as is what stands behind the head
-  pub head_reads : (entries : List (List FileText)) → ReadsJournal c entries → ReadsFrom (listed names) 0 0 behind entries
+  pub head_reads : (entries : List (List FileText)) → ReadsJournal c entries
+      → ReadsFrom (listed names) 0 0 behind entries
   head_reads entries (inl headless) = absurd (not_headless headless.0)
   head_reads entries (inr headed) =
       let read = headed.1 in
@@ -76,14 +82,16 @@ module _ (names : List (List ℕ)) (header : IsHeader names) (c behind : List �
 -- ---- lists
 
 -- behind a closed gate nothing is in doubt
-pub closed_gives : (names : List (List ℕ)) (number place : ℕ) (files : Image) (doubt : Option (List FileText)) (rest : List ℕ) → IsClosed rest → RestGives names number place files doubt rest
+pub closed_gives : (names : List (List ℕ)) (number place : ℕ) (files : Image) (doubt : Option (List FileText))
+    (rest : List ℕ) → IsClosed rest → RestGives names number place files doubt rest
 closed_gives names number place files doubt rest closed = record {
   not_broken = closed_not_broken (listed names) number place rest closed;
   outcomes = λ more reads. nothing_more files doubt more (reads_closed (listed names) number place rest more closed reads);
 }
 
 -- a sure list is one with any doubt
-pub listed_doubt : (leaves : List ℕ → List ℕ → Type 0) (names : List (List ℕ)) (before : Image) (entries : List (List FileText)) (doubt : Option (List FileText))
+pub listed_doubt : (leaves : List ℕ → List ℕ → Type 0) (names : List (List ℕ)) (before : Image)
+    (entries : List (List FileText)) (doubt : Option (List FileText))
     → IsListed leaves names before entries → IsInDoubt leaves names before entries doubt
 listed_doubt leaves names before entries doubt state = record {
   same = state.same;
@@ -96,8 +104,10 @@ listed_doubt leaves names before entries doubt state = record {
 }
 
 -- what a crash leaves of a list in doubt stands for the files with the list, or for these with the doubt
-pub doubt_only : (leaves : List ℕ → List ℕ → Type 0) (names : List (List ℕ)) (before : Image) (entries : List (List FileText)) (doubt : Option (List FileText))
-    → IsInDoubt leaves names before entries doubt → (image : Image) → IsImage leaves image → HasOnly (IsEither (with_entries before entries) doubt) image
+pub doubt_only : (leaves : List ℕ → List ℕ → Type 0) (names : List (List ℕ)) (before : Image)
+    (entries : List (List FileText)) (doubt : Option (List FileText))
+    → IsInDoubt leaves names before entries doubt → (image : Image) → IsImage leaves image
+    → HasOnly (IsEither (with_entries before entries) doubt) image
 doubt_only leaves names before entries doubt state image is =
     let c = image journal2_name in
     let begins = state.journal c (is journal2_name) in
@@ -113,21 +123,25 @@ doubt_only leaves names before entries doubt state image is =
     let read = reads_list (listed names) entries 0 0 last ends begins.0 all fits.each (omega arith) (omega arith) (head_reads names state.header c (list_bytes entries ++ begins.0) begins.1 all reads) in
     either_same files (with_entries files read.more) (with_entries image all) doubt
     (λ file own.
-    ap (λ (es : List (List FileText)). with_entries image es file) read.is ∙ ap (λ (f : Image). f file) (with_entries-append entries read.more image)
+    ap (λ (es : List (List FileText)). with_entries image es file) read.is
+    ∙ ap (λ (f : Image). f file) (with_entries-append entries read.more image)
     ∙ with_entries-same read.more (with_entries image entries) files file (with_entries-unlisted entries image before file (λ none. state.same file own none (image file) (is file))))
     (begins.2.outcomes read.more read.reads))
 
 -- with no doubt there are only the files
 pub only_none : (files image : Image) → HasOnly (IsEither files None) image → HasOnly (IsOutcome files) image
-only_none files image only = record { not_broken = only.not_broken; each = λ outcome has. either_none files outcome (only.each outcome has) }
+only_none files image only =
+    record { not_broken = only.not_broken; each = λ outcome has. either_none files outcome (only.each outcome has) }
 
-pub listed_only : (leaves : List ℕ → List ℕ → Type 0) (names : List (List ℕ)) (before : Image) (entries : List (List FileText)) → IsListed leaves names before entries
+pub listed_only : (leaves : List ℕ → List ℕ → Type 0) (names : List (List ℕ)) (before : Image)
+    (entries : List (List FileText)) → IsListed leaves names before entries
     → (image : Image) → IsImage leaves image → HasOnly (IsOutcome (with_entries before entries)) image
 listed_only leaves names before entries state image is =
     only_none (with_entries before entries) image (doubt_only leaves names before entries None (listed_doubt leaves names before entries None state) image is)
 
 -- no doubt is any doubt
-pub doubt_any : (leaves : List ℕ → List ℕ → Type 0) (names : List (List ℕ)) (before : Image) (entries : List (List FileText)) (doubt : Option (List FileText))
+pub doubt_any : (leaves : List ℕ → List ℕ → Type 0) (names : List (List ℕ)) (before : Image)
+    (entries : List (List FileText)) (doubt : Option (List FileText))
     → IsInDoubt leaves names before entries None → IsInDoubt leaves names before entries doubt
 doubt_any leaves names before entries doubt state = record {
   same = state.same;
@@ -157,7 +171,8 @@ pub closed_journal_not_broken : (c : List ℕ) → IsClosed c → ¬ BreaksJourn
 closed_journal_not_broken c closed broken = broken.0.open_too closed.gate_is
 
 -- so it is in any doubt
-pub bare_doubt : (leaves : List ℕ → List ℕ → Type 0) (files : Image) (doubt : Option (List FileText)) → IsBare leaves files → IsHeadInDoubt leaves files doubt
+pub bare_doubt : (leaves : List ℕ → List ℕ → Type 0) (files : Image) (doubt : Option (List FileText))
+    → IsBare leaves files → IsHeadInDoubt leaves files doubt
 bare_doubt leaves files doubt state = record {
   same = state.same;
   former = state.former;
@@ -168,7 +183,8 @@ bare_doubt leaves files doubt state = record {
 }
 
 -- what a crash leaves of a head in doubt stands for the files, or for these with the doubt
-pub head_only : (leaves : List ℕ → List ℕ → Type 0) (files : Image) (doubt : Option (List FileText)) → IsHeadInDoubt leaves files doubt
+pub head_only : (leaves : List ℕ → List ℕ → Type 0) (files : Image) (doubt : Option (List FileText))
+    → IsHeadInDoubt leaves files doubt
     → (image : Image) → IsImage leaves image → HasOnly (IsEither files doubt) image
 head_only leaves files doubt state image is =
     let gives = state.journal (image journal2_name) (is journal2_name) in
@@ -177,11 +193,14 @@ head_only leaves files doubt state image is =
     either_same files (with_entries files more) (with_entries image more) doubt
     (λ file own. with_entries-same more image files file (state.same file own refl (image file) (is file))) (gives.outcomes more reads))
 
-pub bare_only : (leaves : List ℕ → List ℕ → Type 0) (files : Image) → IsBare leaves files → (image : Image) → IsImage leaves image → HasOnly (IsOutcome files) image
-bare_only leaves files state image is = only_none files image (head_only leaves files None (bare_doubt leaves files None state) image is)
+pub bare_only : (leaves : List ℕ → List ℕ → Type 0) (files : Image) → IsBare leaves files → (image : Image)
+    → IsImage leaves image → HasOnly (IsOutcome files) image
+bare_only leaves files state image is =
+    only_none files image (head_only leaves files None (bare_doubt leaves files None state) image is)
 
 -- no doubt is any doubt
-pub head_any : (leaves : List ℕ → List ℕ → Type 0) (files : Image) (doubt : Option (List FileText)) → IsHeadInDoubt leaves files None → IsHeadInDoubt leaves files doubt
+pub head_any : (leaves : List ℕ → List ℕ → Type 0) (files : Image) (doubt : Option (List FileText))
+    → IsHeadInDoubt leaves files None → IsHeadInDoubt leaves files doubt
 head_any leaves files doubt state = record {
   same = state.same;
   former = state.former;
@@ -202,7 +221,8 @@ bare_settled leaves files state = record {
   journal = λ c is. record { not_broken = closed_journal_not_broken c (state.journal c is); none = λ more reads. closed_reads c more (state.journal c is) reads };
 }
 
-pub listed_settled : (leaves : List ℕ → List ℕ → Type 0) (names : List (List ℕ)) (files : Image) → IsListed leaves names files [] → IsSettled leaves files
+pub listed_settled : (leaves : List ℕ → List ℕ → Type 0) (names : List (List ℕ)) (files : Image)
+    → IsListed leaves names files [] → IsSettled leaves files
 listed_settled leaves names files state = record {
   same = state.same;
   former = state.former;
@@ -215,10 +235,14 @@ listed_settled leaves names files state = record {
 }
 
 -- what a crash leaves of a journal at rest
-pub rests_only : (headed in_doubt : Bool) (leaves : List ℕ → List ℕ → Type 0) (names : List (List ℕ)) (before : Image) (list : List (List FileText)) (doubt : Option (List FileText))
-    → RestsAs headed in_doubt leaves names before list doubt → (image : Image) → IsImage leaves image → HasOnly (IsEither (with_entries before list) doubt) image
-rests_only true false leaves names before list doubt state image is = doubt_only leaves names before list doubt (listed_doubt leaves names before list doubt state) image is
-rests_only true true leaves names before list doubt state image is = doubt_only leaves names before list doubt state image is
+pub rests_only : (headed in_doubt : Bool) (leaves : List ℕ → List ℕ → Type 0) (names : List (List ℕ)) (before : Image)
+    (list : List (List FileText)) (doubt : Option (List FileText))
+    → RestsAs headed in_doubt leaves names before list doubt → (image : Image) → IsImage leaves image
+    → HasOnly (IsEither (with_entries before list) doubt) image
+rests_only true false leaves names before list doubt state image is =
+    doubt_only leaves names before list doubt (listed_doubt leaves names before list doubt state) image is
+rests_only true true leaves names before list doubt state image is =
+    doubt_only leaves names before list doubt state image is
 rests_only false false leaves names before list doubt state image is =
     subst (λ (es : List (List FileText)). HasOnly (IsEither (with_entries before es) doubt) image) (sym state.0) (head_only leaves before doubt (bare_doubt leaves before doubt state.1) image is)
 rests_only false true leaves names before list doubt state image is =

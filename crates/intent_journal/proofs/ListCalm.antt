@@ -24,8 +24,10 @@ use Rattle.intent_journal.proofs.Retired.{retired_shut, retired_gate, shut_opens
 use Rattle.intent_journal.proofs.WrittenLists.{listed_opens}
 
 -- a written list leads to the gate behind it
-leads_list : (rule : Rule) (Ends : ℕ → ℕ → List ℕ → Type 0) (entries : List (List FileText)) (number place last ends : ℕ) (rest : List ℕ) → AllByRecursion (IsAllowed rule) entries → last ≤ most_entries
-    → ends ≤ last_place → last ≡ number + length entries → ends ≡ place + length (list_bytes entries) → Ends last ends rest → Leads rule Ends number place (list_bytes entries ++ rest) entries
+leads_list : (rule : Rule) (Ends : ℕ → ℕ → List ℕ → Type 0) (entries : List (List FileText))
+    (number place last ends : ℕ) (rest : List ℕ) → AllByRecursion (IsAllowed rule) entries → last ≤ most_entries
+    → ends ≤ last_place → last ≡ number + length entries → ends ≡ place + length (list_bytes entries)
+    → Ends last ends rest → Leads rule Ends number place (list_bytes entries ++ rest) entries
 leads_list rule Ends [] number place last ends rest each few within counted placed holds =
     let same_number : last ≡ number = omega arith in
     let same_place : ends ≡ place = omega arith in
@@ -42,25 +44,36 @@ leads_list rule Ends (entry ∷ entries) number place last ends rest each few wi
 
 -- two journals that begin with one head and one list, and are closed behind them
 module _ (names : List (List ℕ)) (entries : List (List FileText)) where
-  joins : (c : List ℕ) (begins : BeginsWith names entries IsClosed c) → c ≡ (front names ++ list_bytes entries) ++ begins.0
+  joins : (c : List ℕ) (begins : BeginsWith names entries IsClosed c)
+      → c ≡ (front names ++ list_bytes entries) ++ begins.0
   joins c begins = begins.1 ∙ sym (append_assoc (front names) (list_bytes entries) begins.0)
 
   sized : front_size names + length (list_bytes entries) ≡ length (front names ++ list_bytes entries)
   sized = omega (arith, length-append (front names) (list_bytes entries), length_front names)
 
-  starts : (c : List ℕ) → BeginsWith names entries IsClosed c → take (front_size names + length (list_bytes entries)) c ≡ front names ++ list_bytes entries
+  starts : (c : List ℕ) → BeginsWith names entries IsClosed c
+      → take (front_size names + length (list_bytes entries)) c ≡ front names ++ list_bytes entries
   starts c begins =
-      ap (λ (n : ℕ). take n c) sized ∙ ap (take (length (front names ++ list_bytes entries))) (joins c begins) ∙ take-append_seam (front names ++ list_bytes entries) begins.0
+      ap (λ (n : ℕ). take n c) sized ∙ ap (take (length (front names ++ list_bytes entries))) (joins c begins)
+      ∙ take-append_seam (front names ++ list_bytes entries) begins.0
 
-  ends : (c : List ℕ) (begins : BeginsWith names entries IsClosed c) → drop (front_size names + length (list_bytes entries)) c ≡ begins.0
+  ends : (c : List ℕ) (begins : BeginsWith names entries IsClosed c)
+      → drop (front_size names + length (list_bytes entries)) c ≡ begins.0
   ends c begins =
-      ap (λ (n : ℕ). drop n c) sized ∙ ap (drop (length (front names ++ list_bytes entries))) (joins c begins) ∙ drop-append_seam (front names ++ list_bytes entries) begins.0
+      ap (λ (n : ℕ). drop n c) sized ∙ ap (drop (length (front names ++ list_bytes entries))) (joins c begins)
+      ∙ drop-append_seam (front names ++ list_bytes entries) begins.0
 
-  ends_at : (journal c : List ℕ) → BeginsWith names entries IsClosed journal → BeginsWith names entries IsClosed c → EndsAt (front_size names + length (list_bytes entries)) journal c
-  ends_at journal c first begins = record { front = starts c begins ∙ sym (starts journal first); closed = ap gate (ends c begins) ∙ begins.2.gate_is }
+  ends_at : (journal c : List ℕ) → BeginsWith names entries IsClosed journal → BeginsWith names entries IsClosed c
+      → EndsAt (front_size names + length (list_bytes entries)) journal c
+  ends_at journal c first begins =
+      record {
+        front = starts c begins ∙ sym (starts journal first);
+        closed = ap gate (ends c begins) ∙ begins.2.gate_is;
+      }
 
 -- the gate behind a list that is there for good is one of the journal
-list_gate : (leaves : List ℕ → List ℕ → Type 0) (names : List (List ℕ)) (before : Image) (entries : List (List FileText)) (c : List ℕ) → IsListed leaves names before entries → leaves journal2_name c
+list_gate : (leaves : List ℕ → List ℕ → Type 0) (names : List (List ℕ)) (before : Image)
+    (entries : List (List FileText)) (c : List ℕ) → IsListed leaves names before entries → leaves journal2_name c
     → HasListGate c (front_size names + length (list_bytes entries))
 list_gate leaves names before entries c state is =
     let begins = state.journal c is in
@@ -78,8 +91,10 @@ list_gate leaves names before entries c state is =
     })
 
 -- a list that is there for good is calm, with any files that the files with it are among
-pub listed_calm : (seen : Image) (leaves : List ℕ → List ℕ → Type 0) (names : List (List ℕ)) (before files : Image) (entries : List (List FileText)) (doubt : Option (List FileText))
-    → IsListed leaves names before entries → IsImage leaves seen → IsEither files doubt (with_entries before entries) → IsCalm seen leaves files doubt
+pub listed_calm : (seen : Image) (leaves : List ℕ → List ℕ → Type 0) (names : List (List ℕ)) (before files : Image)
+    (entries : List (List FileText)) (doubt : Option (List FileText))
+    → IsListed leaves names before entries → IsImage leaves seen → IsEither files doubt (with_entries before entries)
+    → IsCalm seen leaves files doubt
 listed_calm seen leaves names before files entries doubt state seen_is either =
     let begins = state.journal (seen journal2_name) (seen_is journal2_name) in
     calm_from seen leaves files doubt
@@ -103,7 +118,8 @@ listed_calm seen leaves names before files entries doubt state seen_is either =
     record { not_broken = only.not_broken; each = λ outcome has. either_same files (with_entries before entries) outcome doubt (only.each outcome has) either })
 
 -- and so is one without a header
-pub bare_calm : (seen : Image) (leaves : List ℕ → List ℕ → Type 0) (bare files : Image) (doubt : Option (List FileText)) → IsBare leaves bare → IsImage leaves seen → IsEither files doubt bare
+pub bare_calm : (seen : Image) (leaves : List ℕ → List ℕ → Type 0) (bare files : Image) (doubt : Option (List FileText))
+    → IsBare leaves bare → IsImage leaves seen → IsEither files doubt bare
     → IsCalm seen leaves files doubt
 bare_calm seen leaves bare files doubt state seen_is either =
     calm_from seen leaves files doubt (λ file own unopened c is. state.same file own refl c is ∙ sym (state.same file own refl (seen file) (seen_is file)))
@@ -114,7 +130,8 @@ bare_calm seen leaves bare files doubt state seen_is either =
     record { not_broken = only.not_broken; each = λ outcome has. either_same files bare outcome doubt (only.each outcome has) either })
 
 -- a disk with one image is calm where its outcomes are these
-pub one_calm : (seen : Image) (leaves : List ℕ → List ℕ → Type 0) (files : Image) (doubt : Option (List FileText)) → ((file : List ℕ) → Only (seen file) (leaves file)) → HasOnly (IsEither files doubt) seen
+pub one_calm : (seen : Image) (leaves : List ℕ → List ℕ → Type 0) (files : Image) (doubt : Option (List FileText))
+    → ((file : List ℕ) → Only (seen file) (leaves file)) → HasOnly (IsEither files doubt) seen
     → IsCalm seen leaves files doubt
 one_calm seen leaves files doubt only outcomes = record {
   same = λ file own unopened. only file;

@@ -48,43 +48,56 @@ abbrev undone : Image → List FileText → List FileText
 undone files [] = []
 undone files (text ∷ texts) = record { file = text.file; bytes = files text.file } ∷ undone files texts
 
-undone-named : (files : Image) (entry : List FileText) (file bytes : List ℕ) → content_in entry file ≡ Some bytes → content_in (undone files entry) file ≡ Some (files file)
+undone-named : (files : Image) (entry : List FileText) (file bytes : List ℕ) → content_in entry file ≡ Some bytes
+    → content_in (undone files entry) file ≡ Some (files file)
 undone-named files [] file bytes is = absurd (cc)
-undone-named files (text ∷ texts) file bytes is = by (cond_some (bytes_eq text.file file) text.bytes bytes (content_in texts file) is) (λ there. undone-named files texts file bytes there)
+undone-named files (text ∷ texts) file bytes is =
+    by (cond_some (bytes_eq text.file file) text.bytes bytes (content_in texts file) is) (λ there. undone-named files texts file bytes there)
   where
-    by : ((bytes_eq text.file file ≡ true) × (text.bytes ≡ bytes)) ⊎ ((bytes_eq text.file file ≡ false) × (content_in texts file ≡ Some bytes))
-        → (content_in texts file ≡ Some bytes → content_in (undone files texts) file ≡ Some (files file)) → content_in (undone files (text ∷ texts)) file ≡ Some (files file)
+    by : ((bytes_eq text.file file ≡ true) × (text.bytes ≡ bytes))
+        ⊎ ((bytes_eq text.file file ≡ false) × (content_in texts file ≡ Some bytes))
+        → (content_in texts file ≡ Some bytes → content_in (undone files texts) file ≡ Some (files file))
+        → content_in (undone files (text ∷ texts)) file ≡ Some (files file)
     by (inl here) on =
-        ap (λ (b : Bool). cond b (Some (files text.file)) (content_in (undone files texts) file)) here.0 ∙ ap (λ (f : List ℕ). Some (files f)) ((bytes_eq-Decides text.file file).0 here.0)
-    by (inr there) on = ap (λ (b : Bool). cond b (Some (files text.file)) (content_in (undone files texts) file)) there.0 ∙ on there.1
+        ap (λ (b : Bool). cond b (Some (files text.file)) (content_in (undone files texts) file)) here.0
+        ∙ ap (λ (f : List ℕ). Some (files f)) ((bytes_eq-Decides text.file file).0 here.0)
+    by (inr there) on =
+        ap (λ (b : Bool). cond b (Some (files text.file)) (content_in (undone files texts) file)) there.0 ∙ on there.1
 
-undone-unnamed : (files : Image) (entry : List FileText) (file : List ℕ) → content_in entry file ≡ None → content_in (undone files entry) file ≡ None
+undone-unnamed : (files : Image) (entry : List FileText) (file : List ℕ) → content_in entry file ≡ None
+    → content_in (undone files entry) file ≡ None
 undone-unnamed files [] file none = refl
 undone-unnamed files (text ∷ texts) file none =
     let parts = cond_none (bytes_eq text.file file) text.bytes (content_in texts file) none in
-    ap (λ (b : Bool). cond b (Some (files text.file)) (content_in (undone files texts) file)) parts.0 ∙ undone-unnamed files texts file parts.1
+    ap (λ (b : Bool). cond b (Some (files text.file)) (content_in (undone files texts) file)) parts.0
+    ∙ undone-unnamed files texts file parts.1
 
 -- files with an entry, and then with what takes it back
-with_undone : (files seen : Image) (entry : List FileText) (file : List ℕ) → seen file ≡ with_entry files entry file → with_entry seen (undone files entry) file ≡ files file
+with_undone : (files seen : Image) (entry : List FileText) (file : List ℕ) → seen file ≡ with_entry files entry file
+    → with_entry seen (undone files entry) file ≡ files file
 with_undone files seen entry file same = elim (content_cases entry file) [
   | inl none ↦ ap (λ (o : Option (List ℕ)). unwrap_or o (seen file)) (undone-unnamed files entry file none) ∙ same ∙ ap (λ (o : Option (List ℕ)). unwrap_or o (files file)) none
   | inr some ↦ ap (λ (o : Option (List ℕ)). unwrap_or o (seen file)) (undone-named files entry file some.0 some.1)
 ]
 
 -- the same outcomes, told from the files, or from these with the entry
-either_rebased : (files seen : Image) (doubt : Option (List FileText)) (outcome : Image) → SameFiles seen files → IsEither files doubt outcome → IsEither seen doubt outcome
+either_rebased : (files seen : Image) (doubt : Option (List FileText)) (outcome : Image) → SameFiles seen files
+    → IsEither files doubt outcome → IsEither seen doubt outcome
 either_rebased files seen doubt outcome same (inl is) = inl (λ file own. is file own ∙ sym (same file own))
 either_rebased files seen doubt outcome same (inr brings) =
     inr (brings.0, brings.1, λ file own. brings.2 file own ∙ sym (with_entry-same brings.0 seen files file (λ _. same file own)))
 
-either_turned : (files seen : Image) (entry : List FileText) (outcome : Image) → SameFiles seen (with_entry files entry) → IsEither files (Some entry) outcome
+either_turned : (files seen : Image) (entry : List FileText) (outcome : Image) → SameFiles seen (with_entry files entry)
+    → IsEither files (Some entry) outcome
     → IsEither seen (Some (undone files entry)) outcome
-either_turned files seen entry outcome same (inl is) = inr (undone files entry, refl, λ file own. is file own ∙ sym (with_undone files seen entry file (same file own)))
+either_turned files seen entry outcome same (inl is) =
+    inr (undone files entry, refl, λ file own. is file own ∙ sym (with_undone files seen entry file (same file own)))
 either_turned files seen entry outcome same (inr brings) =
     inl (λ file own. brings.2 file own ∙ ap (λ (e : List FileText). with_entry files e file) (sym (some_is entry brings.0 brings.1)) ∙ sym (same file own))
 
 -- files that are the same are in the same doubt
-pub moved_doubt : (leaves : List ℕ → List ℕ → Type 0) (opened files : Image) (doubt : Option (List FileText)) → SameFiles files opened → IsHeadInDoubt leaves opened doubt
+pub moved_doubt : (leaves : List ℕ → List ℕ → Type 0) (opened files : Image) (doubt : Option (List FileText))
+    → SameFiles files opened → IsHeadInDoubt leaves opened doubt
     → IsHeadInDoubt leaves files doubt
 moved_doubt leaves opened files doubt same state = record {
   same = λ file own none c is. state.same file own none c is ∙ sym (same file own);
@@ -100,20 +113,24 @@ moved_doubt leaves opened files doubt same state = record {
 }
 
 -- a journal without an entry in any reading leaves nothing in doubt
-pub none_gives : (files : Image) (doubt : Option (List FileText)) (c : List ℕ) → HoldsNone c → JournalGives files doubt c
+pub none_gives : (files : Image) (doubt : Option (List FileText)) (c : List ℕ) → HoldsNone c
+    → JournalGives files doubt c
 none_gives files doubt c holds = record {
   not_broken = holds.not_broken;
   outcomes = λ more reads. subst (λ (es : List (List FileText)). IsEither files doubt (with_entries files es)) (sym (holds.none more reads)) (inl (λ file own. refl));
 }
 
-pub doubt_settled : (leaves : List ℕ → List ℕ → Type 0) (files : Image) (doubt later : Option (List FileText)) → IsHeadInDoubt leaves files doubt
+pub doubt_settled : (leaves : List ℕ → List ℕ → Type 0) (files : Image) (doubt later : Option (List FileText))
+    → IsHeadInDoubt leaves files doubt
     → ((c : List ℕ) → leaves journal2_name c → HoldsNone c) → IsHeadInDoubt leaves files later
-doubt_settled leaves files doubt later state holds = record { same = state.same; former = state.former; journal = λ c is. none_gives files later c (holds c is) }
+doubt_settled leaves files doubt later state holds =
+    record { same = state.same; former = state.former; journal = λ c is. none_gives files later c (holds c is) }
 
 pub none_is : (c : List ℕ) → HoldsNone c → journal_in c ≡ Ok []
 none_is c holds =
     let reading = journal_has_reading c holds.not_broken in
-    journal_is c reading.0 reading.1 ∙ ap (λ (es : List (List FileText)). Ok es) (holds.none reading.0 (journal_read c reading.0 reading.1))
+    journal_is c reading.0 reading.1
+    ∙ ap (λ (es : List (List FileText)). Ok es) (holds.none reading.0 (journal_read c reading.0 reading.1))
 
 -- a calm disk whose former journal is retired, and whose `journal2` has these open entries
 module _ (seen : Image) (leaves : List ℕ → List ℕ → Type 0) (files : Image) (doubt : Option (List FileText)) (calm : IsCalm seen leaves files doubt) (seen_is : IsImage leaves seen)
@@ -125,7 +142,8 @@ module _ (seen : Image) (leaves : List ℕ → List ℕ → Type 0) (files : Ima
   no_former = former_read (seen journal_name) [] (shut_opens (seen journal_name) shut)
 
   -- files that they don't name are as a read gives them
-  pub calm_unnamed : (file : List ℕ) → ¬ IsOwnFile file → content_in (as_one list) file ≡ None → Only (seen file) (leaves file)
+  pub calm_unnamed : (file : List ℕ) → ¬ IsOwnFile file → content_in (as_one list) file ≡ None
+      → Only (seen file) (leaves file)
   calm_unnamed file own none = calm.same file own (λ entries opened.
       let before : opened.before ≡ [] = shut_reads (seen journal_name) opened.before shut (former_read (seen journal_name) opened.before opened.former) in
       let behind : opened.behind ≡ list = journal_once (seen journal2_name) list opened.behind opens opened.journal in
@@ -137,12 +155,14 @@ module _ (seen : Image) (leaves : List ℕ → List ℕ → Type 0) (files : Ima
       calm.outcomes seen (with_entries seen list) seen_is (list, record { before = []; behind = list; are = refl; former = no_former; journal = journal_read (seen journal2_name) list opens }, λ file own. refl)
 
   -- an image whose former journal is shut reads as its `journal2`
-  reads_alone : (image : Image) (entries : List (List FileText)) → leaves journal_name (image journal_name) → ReadsAs image entries → ReadsJournal (image journal2_name) entries
+  reads_alone : (image : Image) (entries : List (List FileText)) → leaves journal_name (image journal_name)
+      → ReadsAs image entries → ReadsJournal (image journal2_name) entries
   reads_alone image entries is reads =
       let none = shut_reads (image journal_name) reads.before (retired_shut leaves (image journal_name) retired is) reads.former in
       subst (λ (es : List (List FileText)). ReadsJournal (image journal2_name) es) (sym (reads.are ∙ ap (λ (es : List (List FileText)). es ++ reads.behind) none)) reads.journal
 
-  begins_journal : (image : Image) → IsImage leaves image → image journal2_name ≡ seen journal2_name → (entries : List (List FileText)) → ReadsAs image entries → BeginsSo list entries
+  begins_journal : (image : Image) → IsImage leaves image → image journal2_name ≡ seen journal2_name
+      → (entries : List (List FileText)) → ReadsAs image entries → BeginsSo list entries
   begins_journal image is same entries reads =
       journal_begins (seen journal2_name) list entries opens
       (subst (λ (c : List ℕ). ReadsJournal c entries) same (reads_alone image entries (is journal_name) reads))
@@ -162,7 +182,8 @@ module _ (seen : Image) (leaves : List ℕ → List ℕ → Type 0) (files : Ima
       still_shut : IsShut (image journal_name)
       still_shut = retired_shut leaves (image journal_name) retired former
 
-      read_before : (entries behind : List (List FileText)) → entries ≡ behind → ReadsJournal (seen journal2_name) behind → ReadsAs (patched seen journal2_name list image) entries
+      read_before : (entries behind : List (List FileText)) → entries ≡ behind
+          → ReadsJournal (seen journal2_name) behind → ReadsAs (patched seen journal2_name list image) entries
       read_before entries behind are journal = record {
         before = [];
         behind = behind;
@@ -171,7 +192,9 @@ module _ (seen : Image) (leaves : List ℕ → List ℕ → Type 0) (files : Ima
         journal = subst (λ (c : List ℕ). ReadsJournal c behind) (sym was_journal) journal;
       }
 
-      closes : (entries : List (List FileText)) → ReadsAs image entries → ReadsAs (patched seen journal2_name list image) entries ⊎ ReadsAs (patched seen journal2_name list image) (list ++ entries)
+      closes : (entries : List (List FileText)) → ReadsAs image entries
+          → ReadsAs (patched seen journal2_name list image) entries
+          ⊎ ReadsAs (patched seen journal2_name list image) (list ++ entries)
       closes entries reads = elim (closing_reads_journal (seen journal2_name) (image journal2_name) at entries stands torn (reads_alone image entries former reads)) [
         | inl none ↦ inr (read_before (list ++ entries) list (ap (λ (es : List (List FileText)). list ++ es) none ∙ append-nil list) (journal_read (seen journal2_name) list opens))
         | inr was ↦ inl (read_before entries entries refl was)
@@ -181,14 +204,18 @@ module _ (seen : Image) (leaves : List ℕ → List ℕ → Type 0) (files : Ima
       breaks (inl broken) = absurd (shut_not_broken (image journal_name) still_shut broken)
       breaks (inr (inl broken)) =
           inr (inl (subst (λ (c : List ℕ). BreaksJournal c) (sym was_journal) (closing_breaks_journal (seen journal2_name) (image journal2_name) at stands torn broken)))
-      breaks (inr (inr both)) = absurd (let none = shut_reads (image journal_name) (both.one ∷ both.others) still_shut both.former in cc)
+      breaks (inr (inr both)) =
+          absurd (let none = shut_reads (image journal_name) (both.one ∷ both.others) still_shut both.former in cc)
 
-    behind_closing : (image : Image) → IsBehindBringing leaves journal2_name list (IsTornWrite at (0 ∷ []) (seen journal2_name)) image → HasOnly (IsEither files doubt) image
+    behind_closing : (image : Image)
+        → IsBehindBringing leaves journal2_name list (IsTornWrite at (0 ∷ []) (seen journal2_name)) image
+        → HasOnly (IsEither files doubt) image
     behind_closing image behind =
         behind_only seen leaves files doubt journal2_name list (inr refl) each seen_is (calm_each seen leaves files doubt calm) begins_journal (IsTornWrite at (0 ∷ []) (seen journal2_name)) image behind
         (closes image behind.this (behind.others journal_name else_former)) (breaks image behind.this (behind.others journal_name else_former))
 
-    pub recovering_only : (image : Image) → IsRecovering seen leaves journal2_name at list image → HasOnly (IsEither files doubt) image
+    pub recovering_only : (image : Image) → IsRecovering seen leaves journal2_name at list image
+        → HasOnly (IsEither files doubt) image
     recovering_only image (inl is) = calm_each seen leaves files doubt calm image is
     recovering_only image (inr (inl bringing)) =
         bringing_only seen leaves files doubt journal2_name list (inr refl) each seen_is (calm_each seen leaves files doubt calm) begins_journal image bringing
@@ -198,14 +225,17 @@ module _ (seen : Image) (leaves : List ℕ → List ℕ → Type 0) (files : Ima
 module _ (seen : Image) (leaves : List ℕ → List ℕ → Type 0) (files : Image) (doubt : Option (List FileText)) (calm : IsCalm seen leaves files doubt) (seen_is : IsImage leaves seen)
     (retired : IsRetired leaves) (opens : OpensJournal (seen journal2_name) []) where
   -- each journal that a crash may leave, over the files that were read
-  read_either : (c : List ℕ) (more : List (List FileText)) → leaves journal2_name c → ReadsJournal c more → IsEither files doubt (with_entries seen more)
+  read_either : (c : List ℕ) (more : List (List FileText)) → leaves journal2_name c → ReadsJournal c more
+      → IsEither files doubt (with_entries seen more)
   read_either c more is reads =
       let image = put_journal seen c in
       let read : ReadsAs image more = record { before = []; behind = more; are = refl; former = no_former seen leaves files doubt calm seen_is retired [] opens; journal = reads } in
       either_same files (with_entries image more) (with_entries seen more) doubt (λ file own. with_entries-same more seen image file (sym (put_same seen c file own)))
       (calm.outcomes image (with_entries image more) (put_leaves leaves seen c seen_is is) (more, read, λ file own. refl))
 
-  in_doubt : (later : Option (List FileText)) → ((outcome : Image) → IsEither files doubt outcome → IsEither seen later outcome) → IsHeadInDoubt leaves seen later
+  in_doubt : (later : Option (List FileText))
+      → ((outcome : Image) → IsEither files doubt outcome → IsEither seen later outcome)
+      → IsHeadInDoubt leaves seen later
   in_doubt later turn = record {
     same = calm_unnamed seen leaves files doubt calm seen_is retired [] opens;
     former = retired;
@@ -219,7 +249,12 @@ module _ (seen : Image) (leaves : List ℕ → List ℕ → Type 0) (files : Ima
   opened_alone = by (opened_either seen leaves files doubt calm seen_is retired [] opens)
     where
       by : IsEither files doubt seen → IsOpened leaves seen []
-      by (inl same) = record { later = doubt; sure = λ some. absurd (some refl); rests = in_doubt doubt (λ outcome either. either_rebased files seen doubt outcome same either) }
+      by (inl same) =
+          record {
+            later = doubt;
+            sure = λ some. absurd (some refl);
+            rests = in_doubt doubt (λ outcome either. either_rebased files seen doubt outcome same either);
+          }
       by (inr brings) = record {
         later = Some (undone files brings.0);
         sure = λ some. absurd (some refl);
@@ -228,10 +263,12 @@ module _ (seen : Image) (leaves : List ℕ → List ℕ → Type 0) (files : Ima
       }
 
   own_alone : SameFiles files seen → IsHeadInDoubt leaves files doubt
-  own_alone same = moved_doubt leaves seen files doubt same (in_doubt doubt (λ outcome either. either_rebased files seen doubt outcome (λ file own. sym (same file own)) either))
+  own_alone same =
+      moved_doubt leaves seen files doubt same (in_doubt doubt (λ outcome either. either_rebased files seen doubt outcome (λ file own. sym (same file own)) either))
 
 -- a disk that was only read is as calm as before
-pub calm_kept : (seen now : Image) (old new : List ℕ → List ℕ → Type 0) (files : Image) (doubt : Option (List FileText)) → now ≡ seen → KeepsImages old new → IsCalm seen old files doubt
+pub calm_kept : (seen now : Image) (old new : List ℕ → List ℕ → Type 0) (files : Image) (doubt : Option (List FileText))
+    → now ≡ seen → KeepsImages old new → IsCalm seen old files doubt
     → IsCalm now new files doubt
 calm_kept seen now old new files doubt same kept calm =
     subst (λ (s : Image). IsCalm s new files doubt) (sym same) (record {
@@ -256,14 +293,17 @@ module _ {D : Type 0} (g : Ghosts D) (old : D) (files : Image) (doubt : Option (
   moments_read mid reads = meanwhile _ _ _ (HasOnly (IsEither files doubt)) (else_read mid reads) held
 
   pub calm_read : (mid : D) → OnlyReads g old mid → IsCalm (g.seen mid) (g.may_leave mid) files doubt
-  calm_read mid reads = calm_kept (g.seen old) (g.seen mid) (g.may_leave old) (g.may_leave mid) files doubt (reads.same tells) (reads.images tells) calm
+  calm_read mid reads =
+      calm_kept (g.seen old) (g.seen mid) (g.may_leave old) (g.may_leave mid) files doubt (reads.same tells) (reads.images tells) calm
 
-  pub moments_then : (mid new : D) → OnlyReads g old mid → AddsOnly g mid new (HasOnly (IsEither files doubt)) → LeavesOnly g old new (HasOnly (IsEither files doubt))
+  pub moments_then : (mid new : D) → OnlyReads g old mid → AddsOnly g mid new (HasOnly (IsEither files doubt))
+      → LeavesOnly g old new (HasOnly (IsEither files doubt))
   moments_then mid new reads next =
       meanwhile _ _ _ (HasOnly (IsEither files doubt)) (else_both _ _ _ _ _ (HasOnly (IsEither files doubt)) (else_read mid reads) reads.moment next) held
 
 -- the entries that an opening would find, where the former journal is shut
-pub found_behind : (image : Image) (list : List (List FileText)) → IsShut (image journal_name) → journal_in (image journal2_name) ≡ Ok list → found_in image ≡ Ok list
+pub found_behind : (image : Image) (list : List (List FileText)) → IsShut (image journal_name)
+    → journal_in (image journal2_name) ≡ Ok list → found_in image ≡ Ok list
 found_behind image list shut_now is =
     ap₂ (λ (a b : Result (List (List FileText)) JournalFault). with_former a b) (former_is (image journal_name) [] (shut_opens (image journal_name) shut_now)) is
 
@@ -274,7 +314,8 @@ module _ {D : Type 0} (g : Ghosts D) (old new : D) (tells : g.tells old ≡ true
   was_is : IsImage (g.may_leave old) (g.seen old)
   was_is = g.read_is_image old tells
 
-  pub recovering_moments : (r : Result Unit Failed) → Recovers g old new r journal2_name at list → AddsOnly g old new (HasOnly (IsEither files doubt))
+  pub recovering_moments : (r : Result Unit Failed) → Recovers g old new r journal2_name at list
+      → AddsOnly g old new (HasOnly (IsEither files doubt))
   recovering_moments r recovers =
       else_weaker _ _ _ (IsRecovering (g.seen old) (g.may_leave old) journal2_name at list) (HasOnly (IsEither files doubt)) recovers.time
       (recovering_only (g.seen old) (g.may_leave old) files doubt calm was_is retired list opens each at stands)
@@ -286,11 +327,13 @@ module _ {D : Type 0} (g : Ghosts D) (old new : D) (tells : g.tells old ≡ true
     former_else : IsElse journal2_name list journal_name
     former_else = ((λ same. names_apart (sym same)), as_one-own list journal_name (inl refl) each)
 
-    rest_else : (file : List ℕ) → ¬ IsOwnFile file → content_in (as_one list) file ≡ None → IsElse journal2_name list file
+    rest_else : (file : List ℕ) → ¬ IsOwnFile file → content_in (as_one list) file ≡ None
+        → IsElse journal2_name list file
     rest_else file own none = ((λ same. own (inr same)), none)
 
     retired_still : IsRetired (g.may_leave new)
-    retired_still = retired_kept (g.may_leave old) (g.may_leave new) (recovers.kept.images journal_name former_else).no_more retired
+    retired_still =
+        retired_kept (g.may_leave old) (g.may_leave new) (recovers.kept.images journal_name former_else).no_more retired
 
     -- all files have their contents
     all_there : (file : List ℕ) → ¬ IsOwnFile file → Only (with_entries (g.seen old) list file) (g.may_leave new file)
@@ -302,18 +345,22 @@ module _ {D : Type 0} (g : Ghosts D) (old new : D) (tells : g.tells old ≡ true
     ]
 
     holds_none : (c : List ℕ) → g.may_leave new journal2_name c → HoldsNone c
-    holds_none c is = subst HoldsNone (sym (recovers.closed c is)) (closed_holds_none (g.seen old journal2_name) at stands)
+    holds_none c is =
+        subst HoldsNone (sym (recovers.closed c is)) (closed_holds_none (g.seen old journal2_name) at stands)
 
-    settled_now : (later : Option (List FileText)) → IsHeadInDoubt (g.may_leave new) (with_entries (g.seen old) list) later
+    settled_now : (later : Option (List FileText))
+        → IsHeadInDoubt (g.may_leave new) (with_entries (g.seen old) list) later
     settled_now later = record {
       same = λ file own none. all_there file own;
       former = retired_still;
       journal = λ c is. none_gives (with_entries (g.seen old) list) later c (holds_none c is);
     }
 
-    behind_now : (image : Image) → IsImage (g.may_leave new) image → IsBehindBringing (g.may_leave old) journal2_name list (IsTornWrite at (0 ∷ []) (g.seen old journal2_name)) image
+    behind_now : (image : Image) → IsImage (g.may_leave new) image
+        → IsBehindBringing (g.may_leave old) journal2_name list (IsTornWrite at (0 ∷ []) (g.seen old journal2_name)) image
     behind_now image is = record {
-      this = subst (λ (c : List ℕ). IsTornWrite at (0 ∷ []) (g.seen old journal2_name) c) (sym (recovers.closed (image journal2_name) (is journal2_name)))
+      this =
+          subst (λ (c : List ℕ). IsTornWrite at (0 ∷ []) (g.seen old journal2_name) c) (sym (recovers.closed (image journal2_name) (is journal2_name)))
           (IsTornWrite-whole (g.seen old journal2_name) at (0 ∷ []) stands.there);
       named = λ other bytes some. recovers.brought other bytes some (image other) (is other);
       others = λ other apart. (recovers.kept.images other apart).no_more (image other) (is other);
@@ -329,7 +376,8 @@ module _ {D : Type 0} (g : Ghosts D) (old new : D) (tells : g.tells old ≡ true
         (λ image is. behind_closing (g.seen old) (g.may_leave old) files doubt calm was_is retired list opens each at stands image (behind_now image is))
 
     found_before : found_in (g.seen old) ≡ Ok list
-    found_before = found_behind (g.seen old) list (retired_shut (g.may_leave old) (g.seen old journal_name) retired (was_is journal_name)) (journal_is (g.seen old journal2_name) list opens)
+    found_before =
+        found_behind (g.seen old) list (retired_shut (g.may_leave old) (g.seen old journal_name) retired (was_is journal_name)) (journal_is (g.seen old journal2_name) list opens)
 
     found_now : found_in (g.seen new) ≡ Ok []
     found_now =
@@ -342,7 +390,10 @@ module _ {D : Type 0} (g : Ghosts D) (old new : D) (tells : g.tells old ≡ true
         let opened_then = ap entries_found found_before in
         let same : SameFiles (g.seen new) (opened_files (g.seen old)) = λ file own.
         all_there file own (g.seen new file) (now_is file) ∙ sym (ap (λ (es : List (List FileText)). with_entries (g.seen old) es file) opened_then) in
-        record { found = λ file own. ap (λ (es : List (List FileText)). with_entries (g.seen new) es file) opened_now ∙ same file own; shown = inr same }
+        record {
+          found = λ file own. ap (λ (es : List (List FileText)). with_entries (g.seen new) es file) opened_now ∙ same file own;
+          shown = inr same;
+        }
 
     pub opens_recovered : OpensCalm g old new (Ok list) files doubt
     opens_recovered = record {
@@ -356,7 +407,8 @@ module _ {D : Type 0} (g : Ghosts D) (old new : D) (tells : g.tells old ≡ true
 
 -- and a disk that was only read
 module _ {D : Type 0} (g : Ghosts D) (old : D) (files : Image) (doubt : Option (List FileText)) (tells : g.tells old ≡ true) (calm : IsCalm (g.seen old) (g.may_leave old) files doubt) where
-  opens_nothing : (new : D) → OnlyReads g old new → IsRetired (g.may_leave old) → OpensJournal (g.seen old journal2_name) [] → OpensCalm g old new (Ok []) files doubt
+  opens_nothing : (new : D) → OnlyReads g old new → IsRetired (g.may_leave old)
+      → OpensJournal (g.seen old journal2_name) [] → OpensCalm g old new (Ok []) files doubt
   opens_nothing new reads retired opens =
       let same = reads.same tells in
       let told = reads.tells ∙ tells in
@@ -383,7 +435,8 @@ module _ {D : Type 0} (g : Ghosts D) (old : D) (files : Image) (doubt : Option (
   }
 
   -- a disk that was read, and whose open entries were recovered then
-  opens_then : (mid new : D) (list : List (List FileText)) → OnlyReads g old mid → OpensCalm g mid new (Ok list) files doubt → OpensCalm g old new (Ok list) files doubt
+  opens_then : (mid new : D) (list : List (List FileText)) → OnlyReads g old mid
+      → OpensCalm g mid new (Ok list) files doubt → OpensCalm g old new (Ok list) files doubt
   opens_then mid new list reads opens =
       let same = reads.same tells in
       record {
@@ -401,7 +454,8 @@ module _ {D : Type 0} (g : Ghosts D) (old : D) (files : Image) (doubt : Option (
         any_moment = moments_then g old files doubt tells calm mid new reads opens.any_moment.earlier;
       }
 
-  opens_failed : (mid new : D) → OnlyReads g old mid → AddsOnly g mid new (HasOnly (IsEither files doubt)) → OpensCalm g old new (Err DiskFault) files doubt
+  opens_failed : (mid new : D) → OnlyReads g old mid → AddsOnly g mid new (HasOnly (IsEither files doubt))
+      → OpensCalm g old new (Err DiskFault) files doubt
   opens_failed mid new reads next = record {
     files = tt;
     opened = tt;
@@ -417,7 +471,8 @@ pub list_cases : (list : List (List FileText)) → (list ≡ []) ⊎ (list ≢ [
 list_cases [] = inl refl
 list_cases (entry ∷ list) = inr (λ none. cc)
 
-pub refused_items : (fault : JournalFault) (result : Result (Vec (List FileText)) JournalFault) → IsErrAnd result (λ e. e ≡ fault) → items_of result ≡ Err fault
+pub refused_items : (fault : JournalFault) (result : Result (Vec (List FileText)) JournalFault)
+    → IsErrAnd result (λ e. e ≡ fault) → items_of result ≡ Err fault
 refused_items fault (Ok list) err = absurd err
 refused_items fault (Err e) err = ap Err err
 
@@ -441,7 +496,8 @@ behind_refused g old new fault reads bad unknown cause = record {
 }
 
 -- one without an open entry
-pub behind_none : {D : Type 0} (g : Ghosts D) (old new : D) → OnlyReads g old new → (g.tells old ≡ true → journal_in (g.seen old journal2_name) ≡ Ok []) → OpensBehind g old new (Ok [])
+pub behind_none : {D : Type 0} (g : Ghosts D) (old new : D) → OnlyReads g old new
+    → (g.tells old ≡ true → journal_in (g.seen old journal2_name) ≡ Ok []) → OpensBehind g old new (Ok [])
 behind_none g old new reads found = record {
   entries = tt;
   good = found;
@@ -460,15 +516,18 @@ behind_none g old new reads found = record {
 module _ {D : Type 0} (g : Ghosts D) (old mid new : D) (at : ℕ) (list : List (List FileText)) (reads : OnlyReads g old mid) (each : AllByRecursion IsEntry list) (some : list ≢ [])
     (found : g.tells old ≡ true → journal_in (g.seen old journal2_name) ≡ Ok list) (stands : g.tells old ≡ true → IsListAt (g.seen old journal2_name) at) (goes : GoesOn g mid new) where
   mid_opens : g.tells old ≡ true → OpensJournal (g.seen mid journal2_name) list
-  mid_opens tells = subst (λ (s : Image). OpensJournal (s journal2_name) list) (sym (reads.same tells)) (journal_opens (g.seen old journal2_name) list (found tells))
+  mid_opens tells =
+      subst (λ (s : Image). OpensJournal (s journal2_name) list) (sym (reads.same tells)) (journal_opens (g.seen old journal2_name) list (found tells))
 
   mid_stands : g.tells old ≡ true → IsListAt (g.seen mid journal2_name) at
   mid_stands tells = subst (λ (s : Image). IsListAt (s journal2_name) at) (sym (reads.same tells)) (stands tells)
 
   mid_retired : g.tells old ≡ true → IsRetired (g.may_leave old) → IsRetired (g.may_leave mid)
-  mid_retired tells retired = retired_kept (g.may_leave old) (g.may_leave mid) (reads.images tells journal_name).no_more retired
+  mid_retired tells retired =
+      retired_kept (g.may_leave old) (g.may_leave mid) (reads.images tells journal_name).no_more retired
 
-  former_kept : (r : Result Unit Failed) → g.tells old ≡ true → Recovers g mid new r journal2_name at list → (c : List ℕ) → g.may_leave new journal_name c → g.may_leave old journal_name c
+  former_kept : (r : Result Unit Failed) → g.tells old ≡ true → Recovers g mid new r journal2_name at list
+      → (c : List ℕ) → g.may_leave new journal_name c → g.may_leave old journal_name c
   former_kept r tells recovers c is =
       (reads.images tells journal_name).no_more c
       ((recovers.kept.images journal_name ((λ same. names_apart (sym same)), as_one-own list journal_name (inl refl) each)).no_more c is)
@@ -480,7 +539,8 @@ module _ {D : Type 0} (g : Ghosts D) (old mid new : D) (at : ℕ) (list : List (
   not_bad tells fault bad = let both = sym (found tells) ∙ bad in cc
 
   -- that were recovered
-  pub behind_all : (g.tells mid ≡ true → Recovers g mid new (Ok tt) journal2_name at list) → OpensBehind g old new (Ok list)
+  pub behind_all : (g.tells mid ≡ true → Recovers g mid new (Ok tt) journal2_name at list)
+      → OpensBehind g old new (Ok list)
   behind_all recovers = record {
     entries = each;
     good = found;
@@ -500,7 +560,8 @@ module _ {D : Type 0} (g : Ghosts D) (old mid new : D) (at : ℕ) (list : List (
   }
 
   -- or not, where the disk failed
-  pub behind_failed : (r : Result Unit Failed) → (g.tells mid ≡ true → Recovers g mid new r journal2_name at list) → HasRisen (g.faults mid) (g.faults new) → OpensBehind g old new (Err DiskFault)
+  pub behind_failed : (r : Result Unit Failed) → (g.tells mid ≡ true → Recovers g mid new r journal2_name at list)
+      → HasRisen (g.faults mid) (g.faults new) → OpensBehind g old new (Err DiskFault)
   behind_failed r recovers risen = record {
     entries = tt;
     good = λ tells. tt;

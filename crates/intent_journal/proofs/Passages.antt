@@ -31,15 +31,21 @@ use Rattle.intent_journal.proofs.Retired.{names_apart, retired_kept}
 
 -- no list names the journal's own files
 content_in-own : (entry : List FileText) (file : List ℕ) → IsOwnFile file → IsEntry entry → content_in entry file ≡ None
-content_in-own entry file (inl former) is = subst (λ (f : List ℕ). content_in entry f ≡ None) (sym former) (content_in-journal entry is)
-content_in-own entry file (inr journal) is = subst (λ (f : List ℕ). content_in entry f ≡ None) (sym journal) (content_in-journal2 entry is)
+content_in-own entry file (inl former) is =
+    subst (λ (f : List ℕ). content_in entry f ≡ None) (sym former) (content_in-journal entry is)
+content_in-own entry file (inr journal) is =
+    subst (λ (f : List ℕ). content_in entry f ≡ None) (sym journal) (content_in-journal2 entry is)
 
-pub as_one-own : (entries : List (List FileText)) (file : List ℕ) → IsOwnFile file → AllByRecursion IsEntry entries → content_in (as_one entries) file ≡ None
+pub as_one-own : (entries : List (List FileText)) (file : List ℕ) → IsOwnFile file → AllByRecursion IsEntry entries
+    → content_in (as_one entries) file ≡ None
 as_one-own [] file own each = refl
-as_one-own (entry ∷ entries) file own each = content_in-second (as_one entries) entry file (as_one-own entries file own each.1) ∙ content_in-own entry file own each.0
+as_one-own (entry ∷ entries) file own each =
+    content_in-second (as_one entries) entry file (as_one-own entries file own each.1)
+    ∙ content_in-own entry file own each.0
 
 -- what a header allows is an entry
-pub each_entry : (names : List (List ℕ)) (entries : List (List FileText)) → AllByRecursion (IsAllowed (listed names)) entries → AllByRecursion IsEntry entries
+pub each_entry : (names : List (List ℕ)) (entries : List (List FileText))
+    → AllByRecursion (IsAllowed (listed names)) entries → AllByRecursion IsEntry entries
 each_entry names [] each = tt
 each_entry names (entry ∷ entries) each = (each.0.is_entry, each_entry names entries each.1)
 
@@ -51,7 +57,8 @@ module _ (old new : List ℕ → List ℕ → Type 0) (Step : List ℕ → List 
   pub former_kept : IsRetired old → IsRetired new
   former_kept = retired_kept old new (step.others journal_name (λ same. names_apart (sym same)))
 
-  pub unlisted_kept : (before : Image) (entries : List (List FileText)) → KeepsUnlisted old before entries → KeepsUnlisted new before entries
+  pub unlisted_kept : (before : Image) (entries : List (List FileText)) → KeepsUnlisted old before entries
+      → KeepsUnlisted new before entries
   unlisted_kept before entries same file own none c is = same file own none c (others_kept file own c is)
 
 -- ---- bytes behind a head and a list
@@ -66,17 +73,20 @@ module _ (head : List ℕ) (entries : List (List FileText)) (rest bytes : List �
       (behind.0, list.1 ∙ ap (λ (l : List ℕ). head ++ l) behind.1, behind.2)
 
   -- and what it leaves where it went well
-  pub written_over : written (head ++ (list_bytes entries ++ rest)) place bytes ≡ head ++ (list_bytes entries ++ written rest at bytes)
+  pub written_over : written (head ++ (list_bytes entries ++ rest)) place bytes
+      ≡ head ++ (list_bytes entries ++ written rest at bytes)
   written_over =
       written_behind head (list_bytes entries ++ rest) bytes place (length (list_bytes entries) + at) (omega arith)
       ∙ ap (λ (l : List ℕ). head ++ l) (written_behind (list_bytes entries) rest bytes (length (list_bytes entries) + at) at refl)
 
 -- two heads of one size before a list are one, and so is what stands behind the list
-pub same_parts : (head other : List ℕ) (entries : List (List FileText)) (rest behind : List ℕ) → length head ≡ length other
+pub same_parts : (head other : List ℕ) (entries : List (List FileText)) (rest behind : List ℕ)
+    → length head ≡ length other
     → head ++ (list_bytes entries ++ rest) ≡ other ++ (list_bytes entries ++ behind) → (head ≡ other) × (rest ≡ behind)
 same_parts head other entries rest behind sized is =
     let heads : head ≡ other =
-    sym (take-append_seam head (list_bytes entries ++ rest)) ∙ ap (λ (n : ℕ). take n (head ++ (list_bytes entries ++ rest))) sized
+    sym (take-append_seam head (list_bytes entries ++ rest))
+    ∙ ap (λ (n : ℕ). take n (head ++ (list_bytes entries ++ rest))) sized
     ∙ ap (take (length other)) is ∙ take-append_seam other (list_bytes entries ++ behind) in
     let lists = append_cancel_left other (list_bytes entries ++ rest) (list_bytes entries ++ behind) (sym (ap (λ (h : List ℕ). h ++ (list_bytes entries ++ rest)) heads) ∙ is) in
     (heads, append_cancel_left (list_bytes entries) rest behind lists)
@@ -84,19 +94,23 @@ same_parts head other entries rest behind sized is =
 -- ---- what a gate gives
 
 -- closing a gate in doubt leaves the doubt
-pub closing_gives : (names : List (List ℕ)) (number place : ℕ) (files : Image) (doubt : Option (List FileText)) (rest now : List ℕ) → IsTornWrite 0 (0 ∷ []) rest now
+pub closing_gives : (names : List (List ℕ)) (number place : ℕ) (files : Image) (doubt : Option (List FileText))
+    (rest now : List ℕ) → IsTornWrite 0 (0 ∷ []) rest now
     → RestGives names number place files doubt rest → RestGives names number place files doubt now
 closing_gives names number place files doubt rest now torn gives = record {
   not_broken = λ broken. gives.not_broken (closing_breaks (listed names) number place rest now torn broken);
   outcomes = outcomes;
 }
   where
-    outcomes : (more : List (List FileText)) → ReadsFrom (listed names) number place now more → IsEither files doubt (with_entries files more)
+    outcomes : (more : List (List FileText)) → ReadsFrom (listed names) number place now more
+        → IsEither files doubt (with_entries files more)
     outcomes [] reads = inl (λ file own. refl)
-    outcomes (entry ∷ more) reads = gives.outcomes (entry ∷ more) (closing_reads (listed names) number place rest now entry more torn reads)
+    outcomes (entry ∷ more) reads =
+        gives.outcomes (entry ∷ more) (closing_reads (listed names) number place rest now entry more torn reads)
 
 -- the gate in front of an entry with a closed gate behind it, open or not
-opening_gives : (names : List (List ℕ)) (entries : List (List FileText)) (entry : List FileText) (files : Image) (b : ℕ) (more : List ℕ) → HasRoom (listed names) entries entry
+opening_gives : (names : List (List ℕ)) (entries : List (List FileText)) (entry : List FileText) (files : Image) (b : ℕ)
+    (more : List ℕ) → HasRoom (listed names) entries entry
     → RestGives names (length entries) (length (list_bytes entries)) files (Some entry) (b ∷ (behind_gate entry ++ 0 ∷ more))
 opening_gives names entries entry files b more room = record {
   not_broken = gate_not_broken (listed names) entry (length entries) (length (list_bytes entries)) b more room.is room.few room.within;
@@ -107,7 +121,8 @@ opening_gives names entries entry files b more room = record {
 }
 
 -- a whole list whose files all have its contents changes nothing
-list_gives : (names : List (List ℕ)) (entries : List (List FileText)) (before : Image) (rest : List ℕ) → Fits (listed names) entries → IsClosed rest
+list_gives : (names : List (List ℕ)) (entries : List (List FileText)) (before : Image) (rest : List ℕ)
+    → Fits (listed names) entries → IsClosed rest
     → RestGives names 0 0 (with_entries before entries) None (list_bytes entries ++ rest)
 list_gives names entries before rest fits closed = record {
   not_broken = λ broken.
@@ -138,7 +153,8 @@ module _ (before now : List ℕ) (torn : IsTornWrite 0 (0 ∷ []) before now) wh
   breaks_before : BreaksJournal now → BreaksJournal before
   breaks_before broken = (headed_before broken.0, by broken.1)
     where
-      by : (((ns : List (List ℕ)) → ¬ IsHead now ns) ⊎ BreaksBehindHead now) → (((ns : List (List ℕ)) → ¬ IsHead before ns) ⊎ BreaksBehindHead before)
+      by : (((ns : List (List ℕ)) → ¬ IsHead now ns) ⊎ BreaksBehindHead now)
+          → (((ns : List (List ℕ)) → ¬ IsHead before ns) ⊎ BreaksBehindHead before)
       by (inl headless) = inl (λ ns head. headless ns (same_head before now ns torn.back head))
       by (inr list) = inr (record {
         names = list.names;
@@ -146,8 +162,10 @@ module _ (before now : List ℕ) (torn : IsTornWrite 0 (0 ∷ []) before now) wh
         breaks = subst (λ (rest : List ℕ). BreaksFrom (listed list.names) 0 0 rest) (same_list before now list.names torn.back) list.breaks;
       })
 
-  pub head_closing_gives : (files : Image) (doubt : Option (List FileText)) → JournalGives files doubt before → JournalGives files doubt now
-  head_closing_gives files doubt gives = record { not_broken = λ broken. gives.not_broken (breaks_before broken); outcomes = outcomes }
+  pub head_closing_gives : (files : Image) (doubt : Option (List FileText)) → JournalGives files doubt before
+      → JournalGives files doubt now
+  head_closing_gives files doubt gives =
+      record { not_broken = λ broken. gives.not_broken (breaks_before broken); outcomes = outcomes }
     where
       outcomes : (more : List (List FileText)) → ReadsJournal now more → IsEither files doubt (with_entries files more)
       outcomes more (inl headless) = nothing_more files doubt more headless.1
@@ -163,7 +181,8 @@ module _ (before now : List ℕ) (torn : IsTornWrite 0 (0 ∷ []) before now) wh
           ))
 
 -- a header gate in front of a head and a closed gate, open or not
-head_opening_gives : (names : List (List ℕ)) (files : Image) (b : ℕ) (more c : List ℕ) → IsHeader names → c ≡ b ∷ (head_bytes names ++ (0 ∷ more)) → JournalGives files None c
+head_opening_gives : (names : List (List ℕ)) (files : Image) (b : ℕ) (more c : List ℕ) → IsHeader names
+    → c ≡ b ∷ (head_bytes names ++ (0 ∷ more)) → JournalGives files None c
 head_opening_gives names files b more c header is = record { not_broken = not_broken; outcomes = outcomes }
   where
     opened : drop 1 c ≡ drop 1 (front names ++ (0 ∷ more))
@@ -189,7 +208,8 @@ head_opening_gives names files b more c header is = record { not_broken = not_br
             (subst (λ (rest : List ℕ). BreaksFrom (listed names) 0 0 rest) list_is
             (subst (λ (ns : List (List ℕ)). BreaksFrom (listed ns) 0 0 (drop (front_size ns) c)) same list.breaks))
 
-    outcomes : (entries : List (List FileText)) → ReadsJournal c entries → IsEither files None (with_entries files entries)
+    outcomes : (entries : List (List FileText)) → ReadsJournal c entries
+        → IsEither files None (with_entries files entries)
     outcomes entries (inl headless) = nothing_more files None entries headless.1
     outcomes entries (inr headed) =
         let read = headed.1 in
@@ -201,8 +221,10 @@ head_opening_gives names files b more c header is = record { not_broken = not_br
 -- ---- the passages
 
 -- the contents of the list are in its files
-pub brought_files : (leaves : List ℕ → List ℕ → Type 0) (names : List (List ℕ)) (before : Image) (entries : List (List FileText)) → IsListed leaves names before entries
-    → HasBrought leaves (as_one entries) → (file : List ℕ) → ¬ IsOwnFile file → Only (with_entries before entries file) (leaves file)
+pub brought_files : (leaves : List ℕ → List ℕ → Type 0) (names : List (List ℕ)) (before : Image)
+    (entries : List (List FileText)) → IsListed leaves names before entries
+    → HasBrought leaves (as_one entries) → (file : List ℕ) → ¬ IsOwnFile file
+    → Only (with_entries before entries file) (leaves file)
 brought_files leaves names before entries state brought file own c is = elim (content_cases (as_one entries) file) [
   | inl none ↦ state.same file own none c is ∙ sym (with_entries-as_one entries before file ∙ with_unnamed none)
   | inr some ↦ brought file some.0 some.1 c is ∙ sym (with_entries-as_one entries before file ∙ with_named some.0 some.1)
@@ -211,11 +233,13 @@ brought_files leaves names before entries state brought file own c is = elim (co
     with_unnamed : content_in (as_one entries) file ≡ None → with_entry before (as_one entries) file ≡ before file
     with_unnamed none = ap (λ (o : Option (List ℕ)). unwrap_or o (before file)) none
 
-    with_named : (bytes : List ℕ) → content_in (as_one entries) file ≡ Some bytes → with_entry before (as_one entries) file ≡ bytes
+    with_named : (bytes : List ℕ) → content_in (as_one entries) file ≡ Some bytes
+        → with_entry before (as_one entries) file ≡ bytes
     with_named bytes some = ap (λ (o : Option (List ℕ)). unwrap_or o (before file)) some
 
 -- so its first gate may be closed at any time
-pub listed_emptied : (leaves : List ℕ → List ℕ → Type 0) (names : List (List ℕ)) (before : Image) (entries : List (List FileText)) → IsListed leaves names before entries
+pub listed_emptied : (leaves : List ℕ → List ℕ → Type 0) (names : List (List ℕ)) (before : Image)
+    (entries : List (List FileText)) → IsListed leaves names before entries
     → HasBrought leaves (as_one entries) → IsInDoubt leaves names (with_entries before entries) [] None
 listed_emptied leaves names before entries state brought = record {
   same = λ file own none. brought_files leaves names before entries state brought file own;
@@ -226,8 +250,10 @@ listed_emptied leaves names before entries state brought = record {
 }
 
 -- the files that the list names may change while its gates are open
-pub listed_kept : (old new : List ℕ → List ℕ → Type 0) (names : List (List ℕ)) (before : Image) (entries : List (List FileText)) → IsListed old names before entries
-    → ((other : List ℕ) → content_in (as_one entries) other ≡ None → (c : List ℕ) → new other c → old other c) → IsListed new names before entries
+pub listed_kept : (old new : List ℕ → List ℕ → Type 0) (names : List (List ℕ)) (before : Image)
+    (entries : List (List FileText)) → IsListed old names before entries
+    → ((other : List ℕ) → content_in (as_one entries) other ≡ None → (c : List ℕ) → new other c → old other c)
+    → IsListed new names before entries
 listed_kept old new names before entries state kept =
     let own = λ (file : List ℕ) (is : IsOwnFile file). kept file (as_one-own entries file is (each_entry names entries state.fits.each)) in
     record {
@@ -239,12 +265,15 @@ listed_kept old new names before entries state kept =
     }
 
 -- bytes that were written behind a closed gate
-pub written_closed : (bytes rest : List ℕ) → IsClosed rest → (more : List ℕ) × (written rest 1 bytes ≡ 0 ∷ (bytes ++ more))
+pub written_closed : (bytes rest : List ℕ) → IsClosed rest
+    → (more : List ℕ) × (written rest 1 bytes ≡ 0 ∷ (bytes ++ more))
 written_closed bytes [] closed = absurd (omega (arith, closed.there))
-written_closed bytes (x ∷ rest) closed = let more = drop (1 + length bytes) (x ∷ rest) in (more, ap (λ (y : ℕ). y ∷ (bytes ++ more)) closed.gate_is)
+written_closed bytes (x ∷ rest) closed =
+    let more = drop (1 + length bytes) (x ∷ rest) in (more, ap (λ (y : ℕ). y ∷ (bytes ++ more)) closed.gate_is)
 
 -- a body, with a closed gate behind it
-body_written : (entry : List FileText) (bytes : List ℕ) → bytes ≡ behind_gate entry ++ 0 ∷ [] → (rest : List ℕ) → IsClosed rest
+body_written : (entry : List FileText) (bytes : List ℕ) → bytes ≡ behind_gate entry ++ 0 ∷ [] → (rest : List ℕ)
+    → IsClosed rest
     → (more : List ℕ) × (written rest 1 bytes ≡ 0 ∷ (behind_gate entry ++ 0 ∷ more))
 body_written entry bytes is rest closed =
     let there = written_closed bytes rest closed in
@@ -257,9 +286,12 @@ IsBodyOf entry rest = (more : List ℕ) × (rest ≡ 0 ∷ (behind_gate entry ++
 -- the journals that a crash may leave begin with a head and a list, before a write into it and behind it
 module _ (old new : List ℕ → List ℕ → Type 0) (names : List (List ℕ)) (entries : List (List FileText)) where
   -- what a write behind the list's bytes leaves of them
-  pub torn_there : (bytes c : List ℕ) (place at : ℕ) → place ≡ front_size names + length (list_bytes entries) + at → (Behind After : List ℕ → Type 0)
-      → ((former : List ℕ) → old journal2_name former → BeginsWith names entries Behind former) → IsFileStep journal2_name (IsTornWrite place bytes) old new
-      → ((rest now : List ℕ) → IsTornWrite at bytes rest now → Behind rest → After now) → new journal2_name c → BeginsWith names entries After c
+  pub torn_there : (bytes c : List ℕ) (place at : ℕ) → place ≡ front_size names + length (list_bytes entries) + at
+      → (Behind After : List ℕ → Type 0)
+      → ((former : List ℕ) → old journal2_name former → BeginsWith names entries Behind former)
+      → IsFileStep journal2_name (IsTornWrite place bytes) old new
+      → ((rest now : List ℕ) → IsTornWrite at bytes rest now → Behind rest → After now) → new journal2_name c
+      → BeginsWith names entries After c
   torn_there bytes c place at placed Behind After began step passes is =
       let was = step.this c is in
       let begins = began was.0 was.1 in
@@ -267,8 +299,11 @@ module _ (old new : List ℕ → List ℕ → Type 0) (names : List (List ℕ)) 
       (torn.0, torn.1, passes begins.0 torn.0 torn.2 begins.2)
 
   -- what a write that went well leaves of the journal
-  pub wrote_there : (seen bytes : List ℕ) (place at : ℕ) → place ≡ front_size names + length (list_bytes entries) + at → (Behind After : List ℕ → Type 0) → BeginsWith names entries Behind seen
-      → Only (written seen place bytes) (new journal2_name) → ((rest : List ℕ) → Behind rest → After (written rest at bytes)) → (c : List ℕ) → new journal2_name c → BeginsWith names entries After c
+  pub wrote_there : (seen bytes : List ℕ) (place at : ℕ) → place ≡ front_size names + length (list_bytes entries) + at
+      → (Behind After : List ℕ → Type 0) → BeginsWith names entries Behind seen
+      → Only (written seen place bytes) (new journal2_name)
+      → ((rest : List ℕ) → Behind rest → After (written rest at bytes)) → (c : List ℕ) → new journal2_name c
+      → BeginsWith names entries After c
   wrote_there seen bytes place at placed Behind After begins only passes c is = (
     written begins.0 at bytes,
     only c is ∙ ap (λ (s : List ℕ). written s place bytes) begins.1 ∙ written_over (front names) entries begins.0 bytes place at (omega (arith, length_front names)),
@@ -276,15 +311,18 @@ module _ (old new : List ℕ → List ℕ → Type 0) (names : List (List ℕ)) 
   )
 
 -- a body that was put behind a list of these names
-pub body_of_names : (names : List (List ℕ)) (start : ℕ) (entries : List (List FileText)) (entry : List FileText) (c : List ℕ) → start ≡ front_size names
-    → BeginsWith names entries IsClosed c → HoldsBehind start entries entry c → BeginsWith names entries (IsBodyOf entry) c
+pub body_of_names : (names : List (List ℕ)) (start : ℕ) (entries : List (List FileText)) (entry : List FileText)
+    (c : List ℕ) → start ≡ front_size names
+    → BeginsWith names entries IsClosed c → HoldsBehind start entries entry c
+    → BeginsWith names entries (IsBodyOf entry) c
 body_of_names names start entries entry c starts begins holds =
     let body = 0 ∷ (behind_gate entry ++ (0 ∷ holds.more)) in
     let heads = (same_parts holds.head (front names) entries body begins.0 (omega (arith, holds.size, length_front names)) (sym holds.is ∙ begins.1)).0 in
     (body, holds.is ∙ ap (λ (h : List ℕ). h ++ (list_bytes entries ++ body)) heads, (holds.more, refl))
 
 -- a gate that was opened on a body for good
-opened_closed : (names : List (List ℕ)) (entries : List (List FileText)) (entry : List FileText) (c rest : List ℕ) → c ≡ front names ++ (list_bytes entries ++ written rest 0 (1 ∷ []))
+opened_closed : (names : List (List ℕ)) (entries : List (List FileText)) (entry : List FileText) (c rest : List ℕ)
+    → c ≡ front names ++ (list_bytes entries ++ written rest 0 (1 ∷ []))
     → IsBodyOf entry rest → BeginsWith names (entries ++ entry ∷ []) IsClosed c
 opened_closed names entries entry c rest is body = (
   0 ∷ body.0,
@@ -295,7 +333,8 @@ opened_closed names entries entry c rest is body = (
 
 module _ (old new : List ℕ → List ℕ → Type 0) (names : List (List ℕ)) (before : Image) (entries : List (List FileText)) where
   -- writing behind the closed gate leaves it closed
-  pub listed_behind : (bytes : List ℕ) (place : ℕ) → place ≡ front_size names + length (list_bytes entries) + 1 → IsListed old names before entries
+  pub listed_behind : (bytes : List ℕ) (place : ℕ) → place ≡ front_size names + length (list_bytes entries) + 1
+      → IsListed old names before entries
       → IsFileStep journal2_name (IsTornWrite place bytes) old new → IsListed new names before entries
   listed_behind bytes place placed state step = record {
     same = unlisted_kept old new (IsTornWrite place bytes) step before entries state.same;
@@ -306,8 +345,10 @@ module _ (old new : List ℕ → List ℕ → Type 0) (names : List (List ℕ)) 
   }
 
   -- opening the gate on a body brings its entry in doubt
-  pub doubt_opening : (entry : List FileText) (place start : ℕ) → place ≡ front_size names + length (list_bytes entries) → start ≡ front_size names → IsListed old names before entries
-      → HasRoom (listed names) entries entry → HasBodyBehind old start entries entry → IsFileStep journal2_name (IsTornWrite place (1 ∷ [])) old new → IsInDoubt new names before entries (Some entry)
+  pub doubt_opening : (entry : List FileText) (place start : ℕ) → place ≡ front_size names + length (list_bytes entries)
+      → start ≡ front_size names → IsListed old names before entries
+      → HasRoom (listed names) entries entry → HasBodyBehind old start entries entry
+      → IsFileStep journal2_name (IsTornWrite place (1 ∷ [])) old new → IsInDoubt new names before entries (Some entry)
   doubt_opening entry place start placed starts state room body step =
       let Gives = RestGives names (length entries) (length (list_bytes entries)) (with_entries before entries) (Some entry) in
       record {
@@ -324,7 +365,8 @@ module _ (old new : List ℕ → List ℕ → Type 0) (names : List (List ℕ)) 
       }
 
   -- closing the gate in doubt leaves the doubt
-  pub doubt_closing : (doubt : Option (List FileText)) (place : ℕ) → place ≡ front_size names + length (list_bytes entries) → IsInDoubt old names before entries doubt
+  pub doubt_closing : (doubt : Option (List FileText)) (place : ℕ)
+      → place ≡ front_size names + length (list_bytes entries) → IsInDoubt old names before entries doubt
       → IsFileStep journal2_name (IsTornWrite place (0 ∷ [])) old new → IsInDoubt new names before entries doubt
   doubt_closing doubt place placed state step =
       let Gives = RestGives names (length entries) (length (list_bytes entries)) (with_entries before entries) doubt in
@@ -339,8 +381,10 @@ module _ (old new : List ℕ → List ℕ → Type 0) (names : List (List ℕ)) 
       }
 
   -- a gate that was closed for good
-  pub listed_closed : (seen : List ℕ) (doubt : Option (List FileText)) (place : ℕ) → place ≡ front_size names + length (list_bytes entries) → IsInDoubt old names before entries doubt
-      → old journal2_name seen → IsFileStep journal2_name (IsTornWrite place (0 ∷ [])) old new → Only (written seen place (0 ∷ [])) (new journal2_name) → IsListed new names before entries
+  pub listed_closed : (seen : List ℕ) (doubt : Option (List FileText)) (place : ℕ)
+      → place ≡ front_size names + length (list_bytes entries) → IsInDoubt old names before entries doubt
+      → old journal2_name seen → IsFileStep journal2_name (IsTornWrite place (0 ∷ [])) old new
+      → Only (written seen place (0 ∷ [])) (new journal2_name) → IsListed new names before entries
   listed_closed seen doubt place placed state was step only =
       let Gives = RestGives names (length entries) (length (list_bytes entries)) (with_entries before entries) doubt in
       record {
@@ -352,8 +396,11 @@ module _ (old new : List ℕ → List ℕ → Type 0) (names : List (List ℕ)) 
       }
 
   -- a gate that was opened for good
-  pub listed_opened : (entry : List FileText) (seen : List ℕ) (place start : ℕ) → place ≡ front_size names + length (list_bytes entries) → start ≡ front_size names → IsListed old names before entries
-      → Fits (listed names) (entries ++ entry ∷ []) → old journal2_name seen → HoldsBehind start entries entry seen → IsFileStep journal2_name (IsTornWrite place (1 ∷ [])) old new
+  pub listed_opened : (entry : List FileText) (seen : List ℕ) (place start : ℕ)
+      → place ≡ front_size names + length (list_bytes entries) → start ≡ front_size names
+      → IsListed old names before entries
+      → Fits (listed names) (entries ++ entry ∷ []) → old journal2_name seen → HoldsBehind start entries entry seen
+      → IsFileStep journal2_name (IsTornWrite place (1 ∷ [])) old new
       → Only (written seen place (1 ∷ [])) (new journal2_name) → IsListed new names before (entries ++ entry ∷ [])
   listed_opened entry seen place start placed starts state fits was holds step only = record {
     same = λ file own none c is. state.same file own (as_one-unnamed entries (entry ∷ []) file none) c (others_kept old new (IsTornWrite place (1 ∷ [])) step file own c is);
@@ -376,7 +423,8 @@ abbrev pub HasHead : (List ℕ → List ℕ → Type 0) → List (List ℕ) → 
 HasHead leaves names = (c : List ℕ) → leaves journal2_name c → HoldsHead names c
 
 -- a head that was written behind the closed gate
-pub head_written : (new : List ℕ → List ℕ → Type 0) (names : List (List ℕ)) (header seen : List ℕ) → header ≡ header_bytes names → IsClosed seen
+pub head_written : (new : List ℕ → List ℕ → Type 0) (names : List (List ℕ)) (header seen : List ℕ)
+    → header ≡ header_bytes names → IsClosed seen
     → Only (written seen 1 header) (new journal2_name) → HasHead new names
 head_written new names header seen is closed only c left =
     let there = written_closed header seen closed in (
@@ -387,7 +435,8 @@ head_written new names header seen is closed only c left =
 
 module _ (old new : List ℕ → List ℕ → Type 0) (files : Image) where
   -- closing the header gate in doubt leaves the doubt
-  pub head_closing : (doubt : Option (List FileText)) → IsHeadInDoubt old files doubt → IsFileStep journal2_name (IsTornWrite 0 (0 ∷ [])) old new → IsHeadInDoubt new files doubt
+  pub head_closing : (doubt : Option (List FileText)) → IsHeadInDoubt old files doubt
+      → IsFileStep journal2_name (IsTornWrite 0 (0 ∷ [])) old new → IsHeadInDoubt new files doubt
   head_closing doubt state step = record {
     same = unlisted_kept old new (IsTornWrite 0 (0 ∷ [])) step files [] state.same;
     former = former_kept old new (IsTornWrite 0 (0 ∷ [])) step state.former;
@@ -395,7 +444,8 @@ module _ (old new : List ℕ → List ℕ → Type 0) (files : Image) where
   }
 
   -- it was closed for good
-  pub bare_of_closing : (seen : List ℕ) (doubt : Option (List FileText)) → IsHeadInDoubt old files doubt → IsFileStep journal2_name (IsTornWrite 0 (0 ∷ [])) old new
+  pub bare_of_closing : (seen : List ℕ) (doubt : Option (List FileText)) → IsHeadInDoubt old files doubt
+      → IsFileStep journal2_name (IsTornWrite 0 (0 ∷ [])) old new
       → Only (written seen 0 (0 ∷ [])) (new journal2_name) → IsBare new files
   bare_of_closing seen doubt state step only = record {
     same = unlisted_kept old new (IsTornWrite 0 (0 ∷ [])) step files [] state.same;
@@ -404,7 +454,8 @@ module _ (old new : List ℕ → List ℕ → Type 0) (files : Image) where
   }
 
   -- writing behind the closed header gate leaves it closed
-  pub head_behind : (bytes : List ℕ) → IsBare old files → IsFileStep journal2_name (IsTornWrite 1 bytes) old new → IsBare new files
+  pub head_behind : (bytes : List ℕ) → IsBare old files → IsFileStep journal2_name (IsTornWrite 1 bytes) old new
+      → IsBare new files
   head_behind bytes state step = record {
     same = unlisted_kept old new (IsTornWrite 1 bytes) step files [] state.same;
     former = former_kept old new (IsTornWrite 1 bytes) step state.former;
@@ -412,7 +463,8 @@ module _ (old new : List ℕ → List ℕ → Type 0) (files : Image) where
   }
 
   -- opening it on a head brings no entry in doubt
-  pub head_opening : (names : List (List ℕ)) → IsHeader names → IsBare old files → HasHead old names → IsFileStep journal2_name (IsTornWrite 0 (1 ∷ [])) old new → IsHeadInDoubt new files None
+  pub head_opening : (names : List (List ℕ)) → IsHeader names → IsBare old files → HasHead old names
+      → IsFileStep journal2_name (IsTornWrite 0 (1 ∷ [])) old new → IsHeadInDoubt new files None
   head_opening names header state head step = record {
     same = unlisted_kept old new (IsTornWrite 0 (1 ∷ [])) step files [] state.same;
     former = former_kept old new (IsTornWrite 0 (1 ∷ [])) step state.former;
@@ -424,7 +476,8 @@ module _ (old new : List ℕ → List ℕ → Type 0) (files : Image) where
   }
 
   -- it was opened on a head for good
-  pub head_opened : (names : List (List ℕ)) (seen : List ℕ) → IsHeader names → IsBare old files → HoldsHead names seen → IsFileStep journal2_name (IsTornWrite 0 (1 ∷ [])) old new
+  pub head_opened : (names : List (List ℕ)) (seen : List ℕ) → IsHeader names → IsBare old files → HoldsHead names seen
+      → IsFileStep journal2_name (IsTornWrite 0 (1 ∷ [])) old new
       → Only (written seen 0 (1 ∷ [])) (new journal2_name) → IsListed new names files []
   head_opened names seen header state holds step only = record {
     same = unlisted_kept old new (IsTornWrite 0 (1 ∷ [])) step files [] state.same;

@@ -25,29 +25,37 @@ pick (Some bytes) was now = was
 
 -- an image whose file of open entries, and the files that these name, are as they were read
 abbrev pub patched : Image → List ℕ → List (List FileText) → Image → Image
-patched seen file list image other = cond (bytes_eq other file) (seen other) (pick (content_in (as_one list) other) (seen other) (image other))
+patched seen file list image other =
+    cond (bytes_eq other file) (seen other) (pick (content_in (as_one list) other) (seen other) (image other))
 
-pub patched_is : (seen : Image) (leaves : List ℕ → List ℕ → Type 0) (file : List ℕ) (list : List (List FileText)) (image : Image) → IsImage leaves seen
-    → ((other : List ℕ) → IsElse file list other → leaves other (image other)) → IsImage leaves (patched seen file list image)
-patched_is seen leaves file list image seen_is others other = by (bytes_eq other file) refl (content_in (as_one list) other) refl
+pub patched_is : (seen : Image) (leaves : List ℕ → List ℕ → Type 0) (file : List ℕ) (list : List (List FileText))
+    (image : Image) → IsImage leaves seen
+    → ((other : List ℕ) → IsElse file list other → leaves other (image other))
+    → IsImage leaves (patched seen file list image)
+patched_is seen leaves file list image seen_is others other =
+    by (bytes_eq other file) refl (content_in (as_one list) other) refl
   where
-    by : (b : Bool) → bytes_eq other file ≡ b → (o : Option (List ℕ)) → content_in (as_one list) other ≡ o → leaves other (cond b (seen other) (pick o (seen other) (image other)))
+    by : (b : Bool) → bytes_eq other file ≡ b → (o : Option (List ℕ)) → content_in (as_one list) other ≡ o
+        → leaves other (cond b (seen other) (pick o (seen other) (image other)))
     by true here o named = seen_is other
     by false apart (Some bytes) named = seen_is other
     by false apart None named = others other ((λ same. let yes = (bytes_eq-Decides other file).1 same in cc), named)
 
-pub patched_this : (seen : Image) (file : List ℕ) (list : List (List FileText)) (image : Image) → patched seen file list image file ≡ seen file
+pub patched_this : (seen : Image) (file : List ℕ) (list : List (List FileText)) (image : Image)
+    → patched seen file list image file ≡ seen file
 patched_this seen file list image =
     ap (λ (b : Bool). cond b (seen file) (pick (content_in (as_one list) file) (seen file) (image file))) ((bytes_eq-Decides file file).1 refl)
 
-pub patched_else : (seen : Image) (file : List ℕ) (list : List (List FileText)) (image : Image) (other : List ℕ) → IsElse file list other → patched seen file list image other ≡ image other
+pub patched_else : (seen : Image) (file : List ℕ) (list : List (List FileText)) (image : Image) (other : List ℕ)
+    → IsElse file list other → patched seen file list image other ≡ image other
 patched_else seen file list image other apart =
     let differs : bytes_eq other file ≡ false = false_from_ne_true (bytes_eq other file) (λ same. apart.0 ((bytes_eq-Decides other file).0 same)) in
     ap (λ (b : Bool). cond b (seen other) (pick (content_in (as_one list) other) (seen other) (image other))) differs
     ∙ ap (λ (o : Option (List ℕ)). pick o (seen other) (image other)) apart.1
 
 -- its own files are those of the image, where the file of open entries is as it was read
-pub patched_own : (seen : Image) (file : List ℕ) (list : List (List FileText)) (image : Image) (other : List ℕ) → AllByRecursion IsEntry list → image file ≡ seen file → IsOwnFile other
+pub patched_own : (seen : Image) (file : List ℕ) (list : List (List FileText)) (image : Image) (other : List ℕ)
+    → AllByRecursion IsEntry list → image file ≡ seen file → IsOwnFile other
     → patched seen file list image other ≡ image other
 patched_own seen file list image other each this own = by (bytes_eq other file) refl
   where
@@ -55,7 +63,8 @@ patched_own seen file list image other each this own = by (bytes_eq other file) 
     by true here =
         let same = (bytes_eq-Decides other file).0 here in
         subst (λ (n : List ℕ). patched seen file list image n ≡ image n) (sym same) (patched_this seen file list image ∙ sym this)
-    by false apart = patched_else seen file list image other ((λ same. let yes = (bytes_eq-Decides other file).1 same in cc), as_one-own list other own each)
+    by false apart =
+        patched_else seen file list image other ((λ same. let yes = (bytes_eq-Decides other file).1 same in cc), as_one-own list other own each)
 
 -- a disk whose images have these outcomes, and on which each reading begins with the open entries of this file
 module _ (seen : Image) (leaves : List ℕ → List ℕ → Type 0) (files : Image) (doubt : Option (List FileText)) (file : List ℕ) (list : List (List FileText)) (own : IsOwnFile file)
@@ -66,22 +75,27 @@ module _ (seen : Image) (leaves : List ℕ → List ℕ → Type 0) (files : Ima
     was_is = patched_is seen leaves file list image seen_is others
 
     -- files that the list doesn't name
-    rest_same : (other : List ℕ) → ¬ IsOwnFile other → content_in (as_one list) other ≡ None → image other ≡ patched seen file list image other
+    rest_same : (other : List ℕ) → ¬ IsOwnFile other → content_in (as_one list) other ≡ None
+        → image other ≡ patched seen file list image other
     rest_same other not_own none =
         sym (patched_else seen file list image other ((λ same. not_own (subst (λ (n : List ℕ). IsOwnFile n) (sym same) own)), none))
 
     -- so an image with entries is that one with them
-    with_same : (entries : List (List FileText)) (other : List ℕ) → ReadsAs (patched seen file list image) entries → ¬ IsOwnFile other
+    with_same : (entries : List (List FileText)) (other : List ℕ) → ReadsAs (patched seen file list image) entries
+        → ¬ IsOwnFile other
         → with_entries image entries other ≡ with_entries (patched seen file list image) entries other
     with_same entries other reads not_own =
         let begun = begins (patched seen file list image) was_is (patched_this seen file list image) entries reads in
         with_entries-unlisted entries image (patched seen file list image) other (λ none.
         rest_same other not_own (as_one-unnamed list begun.0 other (subst (λ (es : List (List FileText)). content_in (as_one es) other ≡ None) begun.1 none)))
 
-    was_either : (entries : List (List FileText)) → ReadsAs (patched seen file list image) entries → IsEither files doubt (with_entries (patched seen file list image) entries)
-    was_either entries reads = (held (patched seen file list image) was_is).each (with_entries (patched seen file list image) entries) (entries, reads, λ other not_own. refl)
+    was_either : (entries : List (List FileText)) → ReadsAs (patched seen file list image) entries
+        → IsEither files doubt (with_entries (patched seen file list image) entries)
+    was_either entries reads =
+        (held (patched seen file list image) was_is).each (with_entries (patched seen file list image) entries) (entries, reads, λ other not_own. refl)
 
-    now_either : (outcome : Image) (entries : List (List FileText)) → ReadsAs (patched seen file list image) entries → ((other : List ℕ) → ¬ IsOwnFile other → outcome other ≡ with_entries image entries other)
+    now_either : (outcome : Image) (entries : List (List FileText)) → ReadsAs (patched seen file list image) entries
+        → ((other : List ℕ) → ¬ IsOwnFile other → outcome other ≡ with_entries image entries other)
         → IsEither files doubt outcome
     now_either outcome entries reads same =
         either_same files (with_entries (patched seen file list image) entries) outcome doubt (λ other not_own. same other not_own ∙ with_same entries other reads not_own) (was_either entries reads)
@@ -109,7 +123,8 @@ module _ (seen : Image) (leaves : List ℕ → List ℕ → Type 0) (files : Ima
           ∙ sym (with_entries-as_one list (patched seen file list image) other ∙ ap (λ (o : Option (List ℕ)). unwrap_or o (patched seen file list image other)) some.1)
     ]
 
-    with_list : (entries : List (List FileText)) (other : List ℕ) → ¬ IsOwnFile other → with_entries image entries other ≡ with_entries (patched seen file list image) (list ++ entries) other
+    with_list : (entries : List (List FileText)) (other : List ℕ) → ¬ IsOwnFile other
+        → with_entries image entries other ≡ with_entries (patched seen file list image) (list ++ entries) other
     with_list entries other not_own =
         with_entries-same entries image (with_entries (patched seen file list image) list) other (there other not_own)
         ∙ sym (ap (λ (f : Image). f other) (with_entries-append list entries (patched seen file list image)))

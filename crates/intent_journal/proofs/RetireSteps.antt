@@ -39,17 +39,23 @@ use Rattle.intent_journal.proofs.RecoverSteps.{patched, patched_this, patched_el
 use Rattle.intent_journal.proofs.Retired.{names_apart, retired_shut, retired_only, shut_reads, shut_opens, shut_not_broken}
 
 -- a calm disk whose former journal is too short to be looked at is as if it was retired
-pub retired_short : (seen : Image) (leaves : List ℕ → List ℕ → Type 0) → IsOneGate (HasGate plain (seen journal_name)) head_size (seen journal_name) (leaves journal_name) → IsImage leaves seen
+pub retired_short : (seen : Image) (leaves : List ℕ → List ℕ → Type 0)
+    → IsOneGate (HasGate plain (seen journal_name)) head_size (seen journal_name) (leaves journal_name)
+    → IsImage leaves seen
     → length (seen journal_name) < head_size → IsRetired leaves
-retired_short seen leaves (inl one) seen_is short = inl (λ c is. sized c (one.2 c is) (one.2 (seen journal_name) (seen_is journal_name)))
+retired_short seen leaves (inl one) seen_is short =
+    inl (λ c is. sized c (one.2 c is) (one.2 (seen journal_name) (seen_is journal_name)))
   where
-    sized : (c : List ℕ) → DiffersAt one.0 (seen journal_name) c → DiffersAt one.0 (seen journal_name) (seen journal_name) → length c < head_size
+    sized : (c : List ℕ) → DiffersAt one.0 (seen journal_name) c
+        → DiffersAt one.0 (seen journal_name) (seen journal_name) → length c < head_size
     sized c differs itself =
         let behind = ap length differs.back in
         omega (arith, length-drop (one.0 + 1) c, length-drop (one.0 + 1) (seen journal_name), differs.there, itself.there)
-retired_short seen leaves (inr (inl ends)) seen_is short = inr (λ c is. subst (λ (n : ℕ). gate (drop n c) ≡ 0) (first ends.1.0 ends.1.1) (ends.2 c is).closed)
+retired_short seen leaves (inr (inl ends)) seen_is short =
+    inr (λ c is. subst (λ (n : ℕ). gate (drop n c) ≡ 0) (first ends.1.0 ends.1.1) (ends.2 c is).closed)
   where
-    first : (entries : List (List FileText)) → Leads plain (λ number place rest. place ≡ ends.0) 0 0 (seen journal_name) entries → ends.0 ≡ 0
+    first : (entries : List (List FileText))
+        → Leads plain (λ number place rest. place ≡ ends.0) 0 0 (seen journal_name) entries → ends.0 ≡ 0
     first [] placed = sym placed
     first (entry ∷ entries) leads = absurd (let there = leads.0.there in omega arith)
 retired_short seen leaves (inr (inr all_short)) seen_is short = inl all_short
@@ -57,7 +63,8 @@ retired_short seen leaves (inr (inr all_short)) seen_is short = inl all_short
 -- a calm disk whose former journal has these open entries
 module _ (seen : Image) (leaves : List ℕ → List ℕ → Type 0) (files : Image) (doubt : Option (List FileText)) (list : List (List FileText)) (calm : IsCalm seen leaves files doubt)
     (seen_is : IsImage leaves seen) (each : AllByRecursion IsEntry list) (opens : OpensFormer (seen journal_name) list) where
-  begins_former : (image : Image) → IsImage leaves image → image journal_name ≡ seen journal_name → (entries : List (List FileText)) → ReadsAs image entries → BeginsSo list entries
+  begins_former : (image : Image) → IsImage leaves image → image journal_name ≡ seen journal_name
+      → (entries : List (List FileText)) → ReadsAs image entries → BeginsSo list entries
   begins_former image is same entries reads =
       let begun = former_begins (seen journal_name) list reads.before opens (subst (λ (c : List ℕ). ReadsFormer c reads.before) same reads.former) in
       (begun.0 ++ reads.behind, reads.are ∙ ap (λ (es : List (List FileText)). es ++ reads.behind) begun.1 ∙ append_assoc list begun.0 reads.behind)
@@ -67,10 +74,12 @@ module _ (seen : Image) (leaves : List ℕ → List ℕ → Type 0) (files : Ima
     was_former = patched_this seen journal_name list image
 
     was_journal : patched seen journal_name list image journal2_name ≡ image journal2_name
-    was_journal = patched_else seen journal_name list image journal2_name (names_apart, as_one-own list journal2_name (inr refl) each)
+    was_journal =
+        patched_else seen journal_name list image journal2_name (names_apart, as_one-own list journal2_name (inr refl) each)
 
     -- behind a closing nothing is read, or what was read before it
-    no_former : (entries behind : List (List FileText)) → entries ≡ behind → ReadsJournal (image journal2_name) behind → ReadsAs (patched seen journal_name list image) (list ++ entries)
+    no_former : (entries behind : List (List FileText)) → entries ≡ behind → ReadsJournal (image journal2_name) behind
+        → ReadsAs (patched seen journal_name list image) (list ++ entries)
     no_former entries behind are journal = record {
       before = list;
       behind = behind;
@@ -79,7 +88,8 @@ module _ (seen : Image) (leaves : List ℕ → List ℕ → Type 0) (files : Ima
       journal = subst (λ (c : List ℕ). ReadsJournal c behind) (sym was_journal) journal;
     }
 
-    some_former : (entries before behind : List (List FileText)) → entries ≡ before ++ behind → ReadsFormer (seen journal_name) before → ReadsJournal (image journal2_name) behind
+    some_former : (entries before behind : List (List FileText)) → entries ≡ before ++ behind
+        → ReadsFormer (seen journal_name) before → ReadsJournal (image journal2_name) behind
         → ReadsAs (patched seen journal_name list image) entries
     some_former entries before behind are former journal = record {
       before = before;
@@ -89,18 +99,24 @@ module _ (seen : Image) (leaves : List ℕ → List ℕ → Type 0) (files : Ima
       journal = subst (λ (c : List ℕ). ReadsJournal c behind) (sym was_journal) journal;
     }
 
-    closes_torn : IsTornWrite 0 (0 ∷ []) (seen journal_name) (image journal_name) → (entries : List (List FileText)) → ReadsAs image entries
-        → ReadsAs (patched seen journal_name list image) entries ⊎ ReadsAs (patched seen journal_name list image) (list ++ entries)
+    closes_torn : IsTornWrite 0 (0 ∷ []) (seen journal_name) (image journal_name) → (entries : List (List FileText))
+        → ReadsAs image entries
+        → ReadsAs (patched seen journal_name list image) entries
+        ⊎ ReadsAs (patched seen journal_name list image) (list ++ entries)
     closes_torn torn entries reads = by reads.before reads.former reads.are
       where
-        by : (before : List (List FileText)) → ReadsFormer (image journal_name) before → entries ≡ before ++ reads.behind
-            → ReadsAs (patched seen journal_name list image) entries ⊎ ReadsAs (patched seen journal_name list image) (list ++ entries)
+        by : (before : List (List FileText)) → ReadsFormer (image journal_name) before
+            → entries ≡ before ++ reads.behind
+            → ReadsAs (patched seen journal_name list image) entries
+            ⊎ ReadsAs (patched seen journal_name list image) (list ++ entries)
         by [] former are = inr (no_former entries reads.behind are reads.journal)
         by (entry ∷ more) former are =
             inl (some_former entries (entry ∷ more) reads.behind are (closing_reads plain 0 0 (seen journal_name) (image journal_name) entry more torn former) reads.journal)
 
-    breaks_torn : IsTornWrite 0 (0 ∷ []) (seen journal_name) (image journal_name) → IsBroken image → IsBroken (patched seen journal_name list image)
-    breaks_torn torn (inl broken) = inl (subst (λ (c : List ℕ). BreaksFormer c) (sym was_former) (closing_breaks plain 0 0 (seen journal_name) (image journal_name) torn broken))
+    breaks_torn : IsTornWrite 0 (0 ∷ []) (seen journal_name) (image journal_name) → IsBroken image
+        → IsBroken (patched seen journal_name list image)
+    breaks_torn torn (inl broken) =
+        inl (subst (λ (c : List ℕ). BreaksFormer c) (sym was_former) (closing_breaks plain 0 0 (seen journal_name) (image journal_name) torn broken))
     breaks_torn torn (inr (inl broken)) = inr (inl (subst (λ (c : List ℕ). BreaksJournal c) (sym was_journal) broken))
     breaks_torn torn (inr (inr both)) =
         inr (inr (record {
@@ -113,7 +129,8 @@ module _ (seen : Image) (leaves : List ℕ → List ℕ → Type 0) (files : Ima
         }))
 
     closes_shut : IsShut (image journal_name) → (entries : List (List FileText)) → ReadsAs image entries
-        → ReadsAs (patched seen journal_name list image) entries ⊎ ReadsAs (patched seen journal_name list image) (list ++ entries)
+        → ReadsAs (patched seen journal_name list image) entries
+        ⊎ ReadsAs (patched seen journal_name list image) (list ++ entries)
     closes_shut shut entries reads =
         let none = shut_reads (image journal_name) reads.before shut reads.former in
         inr (no_former entries reads.behind (reads.are ∙ ap (λ (es : List (List FileText)). es ++ reads.behind) none) reads.journal)
@@ -121,7 +138,8 @@ module _ (seen : Image) (leaves : List ℕ → List ℕ → Type 0) (files : Ima
     breaks_shut : IsShut (image journal_name) → IsBroken image → IsBroken (patched seen journal_name list image)
     breaks_shut shut (inl broken) = absurd (shut_not_broken (image journal_name) shut broken)
     breaks_shut shut (inr (inl broken)) = inr (inl (subst (λ (c : List ℕ). BreaksJournal c) (sym was_journal) broken))
-    breaks_shut shut (inr (inr both)) = absurd (let none = shut_reads (image journal_name) (both.one ∷ both.others) shut both.former in cc)
+    breaks_shut shut (inr (inr both)) =
+        absurd (let none = shut_reads (image journal_name) (both.one ∷ both.others) shut both.former in cc)
 
   -- whatever a crash leaves while it is retired
   pub retiring_only : (image : Image) → IsRetiring seen leaves list image → HasOnly (IsEither files doubt) image
@@ -142,7 +160,8 @@ module _ (seen : Image) (leaves : List ℕ → List ℕ → Type 0) (files : Ima
     none = λ more reads. by list some (former_read (seen journal_name) list opens) more reads;
   }
     where
-      by : (entries : List (List FileText)) → entries ≢ [] → ReadsFormer (seen journal_name) entries → (more : List (List FileText)) → ReadsJournal c more → more ≡ []
+      by : (entries : List (List FileText)) → entries ≢ [] → ReadsFormer (seen journal_name) entries
+          → (more : List (List FileText)) → ReadsJournal c more → more ≡ []
       by entries not_none former [] reads = refl
       by [] not_none former (first ∷ more) reads = absurd (not_none refl)
       by (entry ∷ entries) not_none former (first ∷ more) reads =
@@ -155,7 +174,8 @@ module _ {D : Type 0} (g : Ghosts D) (old new : D) (list : List (List FileText))
   else_journal : IsElse journal_name list journal2_name
   else_journal = (names_apart, as_one-own list journal2_name (inr refl) each)
 
-  else_unnamed : (file : List ℕ) → ¬ IsOwnFile file → content_in (as_one list) file ≡ None → IsElse journal_name list file
+  else_unnamed : (file : List ℕ) → ¬ IsOwnFile file → content_in (as_one list) file ≡ None
+      → IsElse journal_name list file
   else_unnamed file own none = ((λ same. own (inl same)), none)
 
   now_is : IsImage (g.may_leave new) (g.seen new)
@@ -182,7 +202,8 @@ module _ {D : Type 0} (g : Ghosts D) (old new : D) (list : List (List FileText))
   ]
 
   module _ (files : Image) (doubt : Option (List FileText)) (calm : IsCalm (g.seen old) (g.may_leave old) files doubt) where
-    behind_now : (image : Image) → IsImage (g.may_leave new) image → IsBehindBringing (g.may_leave old) journal_name list IsShut image
+    behind_now : (image : Image) → IsImage (g.may_leave new) image
+        → IsBehindBringing (g.may_leave old) journal_name list IsShut image
     behind_now image is = record {
       this = retired_shut (g.may_leave new) (image journal_name) retired_now (is journal_name);
       named = λ other bytes some. retires.brought other bytes some (image other) (is other);
@@ -194,7 +215,8 @@ module _ {D : Type 0} (g : Ghosts D) (old new : D) (list : List (List FileText))
         retiring_only (g.seen old) (g.may_leave old) files doubt list calm (g.read_is_image old tells) each opens image (inr (behind_now image is))
 
     -- what no open entry names now, none named before
-    unopened_before : (file : List ℕ) → content_in (as_one list) file ≡ None → IsUnopened (g.seen new) file → IsUnopened (g.seen old) file
+    unopened_before : (file : List ℕ) → content_in (as_one list) file ≡ None → IsUnopened (g.seen new) file
+        → IsUnopened (g.seen old) file
     unopened_before file none unopened entries opened =
         let former : opened.before ≡ list = opens_once plain (g.seen old journal_name) list opened.before opens opened.former in
         let behind = unopened opened.behind (record {
@@ -207,7 +229,8 @@ module _ {D : Type 0} (g : Ghosts D) (old new : D) (list : List (List FileText))
         subst (λ (es : List (List FileText)). content_in (as_one es) file ≡ None) (sym (opened.are ∙ ap (λ (es : List (List FileText)). es ++ opened.behind) former))
         (as_one-neither list opened.behind file none behind)
 
-    same_now : (file : List ℕ) → ¬ IsOwnFile file → IsUnopened (g.seen new) file → Only (g.seen new file) (g.may_leave new file)
+    same_now : (file : List ℕ) → ¬ IsOwnFile file → IsUnopened (g.seen new) file
+        → Only (g.seen new file) (g.may_leave new file)
     same_now file own unopened c is = elim (content_cases (as_one list) file) [
       | inl none ↦ calm.same file own (unopened_before file none unopened) c ((retires.kept.images file (else_unnamed file own none)).no_more c is)
           ∙ sym (retires.kept.seen file (else_unnamed file own none))
@@ -227,8 +250,10 @@ module _ {D : Type 0} (g : Ghosts D) (old new : D) (list : List (List FileText))
         none_behind (g.seen old) (g.may_leave old) files doubt list calm (g.read_is_image old tells) each opens some c ((retires.kept.images journal2_name else_journal).no_more c is)
 
 -- what a crash leaves while it is retired, also where that fails
-retiring_moments : {D : Type 0} (g : Ghosts D) (old new : D) (r : Result Unit Failed) (list : List (List FileText)) (files : Image) (doubt : Option (List FileText)) → g.tells old ≡ true
-    → IsCalm (g.seen old) (g.may_leave old) files doubt → AllByRecursion IsEntry list → OpensFormer (g.seen old journal_name) list → Retires g old new r list
+retiring_moments : {D : Type 0} (g : Ghosts D) (old new : D) (r : Result Unit Failed) (list : List (List FileText))
+    (files : Image) (doubt : Option (List FileText)) → g.tells old ≡ true
+    → IsCalm (g.seen old) (g.may_leave old) files doubt → AllByRecursion IsEntry list
+    → OpensFormer (g.seen old journal_name) list → Retires g old new r list
     → AddsOnly g old new (HasOnly (IsEither files doubt))
 retiring_moments g old new r list files doubt tells calm each opens retires =
     else_weaker _ _ _ (IsRetiring (g.seen old) (g.may_leave old) list) (HasOnly (IsEither files doubt)) retires.time
@@ -238,14 +263,17 @@ retiring_moments g old new r list files doubt tells calm each opens retires =
 
 -- a former journal that was only read
 module _ {D : Type 0} (g : Ghosts D) (old new : D) (reads : OnlyReads g old new) where
-  moments_read : (files : Image) (doubt : Option (List FileText)) → g.tells old ≡ true → IsCalm (g.seen old) (g.may_leave old) files doubt → LeavesOnly g old new (HasOnly (IsEither files doubt))
+  moments_read : (files : Image) (doubt : Option (List FileText)) → g.tells old ≡ true
+      → IsCalm (g.seen old) (g.may_leave old) files doubt → LeavesOnly g old new (HasOnly (IsEither files doubt))
   moments_read files doubt tells calm =
       meanwhile _ _ _ (HasOnly (IsEither files doubt)) (else_read g old files doubt tells calm new reads)
       (λ image left. calm_each (g.seen old) (g.may_leave old) files doubt calm image (g.only_now old image tells left))
 
   -- and refused
-  pub retires_refused : (fault : JournalFault) → (g.tells old ≡ true → (at : ℕ) → fault ≡ BadJournal at → former_in (g.seen old journal_name) ≡ Err (BadJournal at))
-      → ((version : ℕ) → fault ≡ UnknownVersion version → ⊥) → (fault ≡ DiskFault → HasRisen (g.faults old) (g.faults new)) → RetiresFormer g old new (Err fault)
+  pub retires_refused : (fault : JournalFault)
+      → (g.tells old ≡ true → (at : ℕ) → fault ≡ BadJournal at → former_in (g.seen old journal_name) ≡ Err (BadJournal at))
+      → ((version : ℕ) → fault ≡ UnknownVersion version → ⊥)
+      → (fault ≡ DiskFault → HasRisen (g.faults old) (g.faults new)) → RetiresFormer g old new (Err fault)
   retires_refused fault bad known cause = record {
     entries = tt;
     good = λ tells. tt;
@@ -304,7 +332,8 @@ module _ {D : Type 0} (g : Ghosts D) (old mid new : D) (list : List (List FileTe
   open_mid tells =
       subst (λ (s : Image). OpensFormer (s journal_name) list) (sym (reads.same tells)) (former_opens (g.seen old journal_name) list (found tells))
 
-  moments_both : (r : Result Unit Failed) (files : Image) (doubt : Option (List FileText)) → g.tells old ≡ true → IsCalm (g.seen old) (g.may_leave old) files doubt → Retires g mid new r list
+  moments_both : (r : Result Unit Failed) (files : Image) (doubt : Option (List FileText)) → g.tells old ≡ true
+      → IsCalm (g.seen old) (g.may_leave old) files doubt → Retires g mid new r list
       → LeavesOnly g old new (HasOnly (IsEither files doubt))
   moments_both r files doubt tells calm retires =
       meanwhile _ _ _ (HasOnly (IsEither files doubt))
@@ -312,9 +341,11 @@ module _ {D : Type 0} (g : Ghosts D) (old mid new : D) (list : List (List FileTe
       (retiring_moments g mid new r list files doubt (reads.tells ∙ tells) (calm_read g old files doubt tells calm mid reads) each (open_mid tells) retires))
       (λ image left. calm_each (g.seen old) (g.may_leave old) files doubt calm image (g.only_now old image tells left))
 
-  journal_both : (r : Result Unit Failed) → g.tells old ≡ true → Retires g mid new r list → g.seen new journal2_name ≡ g.seen old journal2_name
+  journal_both : (r : Result Unit Failed) → g.tells old ≡ true → Retires g mid new r list
+      → g.seen new journal2_name ≡ g.seen old journal2_name
   journal_both r tells retires =
-      retires.kept.seen journal2_name (names_apart, as_one-own list journal2_name (inr refl) each) ∙ ap (λ (s : Image). s journal2_name) (reads.same tells)
+      retires.kept.seen journal2_name (names_apart, as_one-own list journal2_name (inr refl) each)
+      ∙ ap (λ (s : Image). s journal2_name) (reads.same tells)
 
   -- and retired
   pub retires_all : (g.tells mid ≡ true → Retires g mid new (Ok tt) list) → RetiresFormer g old new (Ok list)
@@ -347,7 +378,8 @@ module _ {D : Type 0} (g : Ghosts D) (old mid new : D) (list : List (List FileTe
   }
 
   -- or not, where the disk failed
-  pub retires_failed : (r : Result Unit Failed) → (g.tells mid ≡ true → Retires g mid new r list) → HasRisen (g.faults mid) (g.faults new) → RetiresFormer g old new (Err DiskFault)
+  pub retires_failed : (r : Result Unit Failed) → (g.tells mid ≡ true → Retires g mid new r list)
+      → HasRisen (g.faults mid) (g.faults new) → RetiresFormer g old new (Err DiskFault)
   retires_failed r retires risen = record {
     entries = tt;
     good = λ tells. tt;

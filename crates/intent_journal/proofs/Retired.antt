@@ -14,11 +14,13 @@ use Rattle.intent_journal.specs.States.{IsRetired, IsOneGate}
 pub names_apart : journal2_name ≢ journal_name
 names_apart same = omega (arith, ap length same)
 
-pub retired_shut : (leaves : List ℕ → List ℕ → Type 0) (c : List ℕ) → IsRetired leaves → leaves journal_name c → IsShut c
+pub retired_shut : (leaves : List ℕ → List ℕ → Type 0) (c : List ℕ) → IsRetired leaves → leaves journal_name c
+    → IsShut c
 retired_shut leaves c (inl short) is = inl (short c is)
 retired_shut leaves c (inr closed) is = inr (closed c is)
 
-pub retired_kept : (old new : List ℕ → List ℕ → Type 0) → ((c : List ℕ) → new journal_name c → old journal_name c) → IsRetired old → IsRetired new
+pub retired_kept : (old new : List ℕ → List ℕ → Type 0) → ((c : List ℕ) → new journal_name c → old journal_name c)
+    → IsRetired old → IsRetired new
 retired_kept old new kept (inl short) = inl (λ c is. short c (kept c is))
 retired_kept old new kept (inr closed) = inr (λ c is. closed c (kept c is))
 
@@ -26,9 +28,11 @@ pub retired_only : (leaves : List ℕ → List ℕ → Type 0) → Only (0 ∷ [
 retired_only leaves only = inl (λ c is. let sized : length c ≡ 1 = ap length (only c is) in omega arith)
 
 -- and its images differ in no open gate
-pub retired_gate : (leaves : List ℕ → List ℕ → Type 0) (Gate : ℕ → Type 0) (journal : List ℕ) → Gate 0 → IsRetired leaves → IsOneGate Gate head_size journal (leaves journal_name)
+pub retired_gate : (leaves : List ℕ → List ℕ → Type 0) (Gate : ℕ → Type 0) (journal : List ℕ) → Gate 0
+    → IsRetired leaves → IsOneGate Gate head_size journal (leaves journal_name)
 retired_gate leaves Gate journal first (inl short) = inr (inr short)
-retired_gate leaves Gate journal first (inr closed) = inr (inl (0, first, λ c is. record { front = refl; closed = closed c is }))
+retired_gate leaves Gate journal first (inr closed) =
+    inr (inl (0, first, λ c is. record { front = refl; closed = closed c is }))
 
 -- a shut journal
 not_open : (c : List ℕ) → IsShut c → ¬ MayBeOpen c

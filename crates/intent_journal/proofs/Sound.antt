@@ -27,27 +27,35 @@ use Rattle.intent_journal.proofs.Passages.{torn_over, written_over, same_parts, 
 
 -- each journal that a crash may leave begins with so many bytes and a list
 abbrev pub Begins : (List ℕ → List ℕ → Type 0) → ℕ → List (List FileText) → Bool → Type 0
-Begins leaves start entries in_doubt = (c : List ℕ) → leaves journal2_name c → StandsBehind start entries (IsBehind in_doubt) c
+Begins leaves start entries in_doubt =
+    (c : List ℕ) → leaves journal2_name c → StandsBehind start entries (IsBehind in_doubt) c
 
 -- whatever stands behind the list, it does so also in doubt
-pub begins_any : (b : Bool) (leaves : List ℕ → List ℕ → Type 0) (start : ℕ) (entries : List (List FileText)) → Begins leaves start entries b → Begins leaves start entries true
-begins_any b leaves start entries begins c is = let there = begins c is in record { head = there.head; rest = there.rest; size = there.size; is = there.is; behind = tt }
+pub begins_any : (b : Bool) (leaves : List ℕ → List ℕ → Type 0) (start : ℕ) (entries : List (List FileText))
+    → Begins leaves start entries b → Begins leaves start entries true
+begins_any b leaves start entries begins c is =
+    let there = begins c is in record { head = there.head; rest = there.rest; size = there.size; is = there.is; behind = tt }
 
 -- no bytes and no list stand before every journal
 pub begins_none : (leaves : List ℕ → List ℕ → Type 0) → Begins leaves 0 [] true
 begins_none leaves c is = record { head = []; rest = c; size = refl; is = refl; behind = tt }
 
 -- the gate behind the list is there, or the file ends before it
-pub gate_place : (start : ℕ) (entries : List (List FileText)) (c : List ℕ) → StandsBehind start entries (IsBehind true) c → start + length (list_bytes entries) ≤ length c
-gate_place start entries c there = omega (arith, ap length there.is, there.size, length-append there.head (list_bytes entries ++ there.rest), length-append (list_bytes entries) there.rest)
+pub gate_place : (start : ℕ) (entries : List (List FileText)) (c : List ℕ)
+    → StandsBehind start entries (IsBehind true) c → start + length (list_bytes entries) ≤ length c
+gate_place start entries c there =
+    omega (arith, ap length there.is, there.size, length-append there.head (list_bytes entries ++ there.rest), length-append (list_bytes entries) there.rest)
 
-pub gate_there : (start : ℕ) (entries : List (List FileText)) (c : List ℕ) → StandsBehind start entries (IsBehind false) c → start + length (list_bytes entries) < length c
+pub gate_there : (start : ℕ) (entries : List (List FileText)) (c : List ℕ)
+    → StandsBehind start entries (IsBehind false) c → start + length (list_bytes entries) < length c
 gate_there start entries c there =
     omega (arith, ap length there.is, there.size, length-append there.head (list_bytes entries ++ there.rest), length-append (list_bytes entries) there.rest, there.behind.there)
 
 -- a body that was written behind the closed gate
-pub body_behind : (new : List ℕ → List ℕ → Type 0) (start : ℕ) (entries : List (List FileText)) (entry : List FileText) (seen bytes : List ℕ) (place : ℕ)
-    → place ≡ start + length (list_bytes entries) + 1 → bytes ≡ behind_gate entry ++ 0 ∷ [] → StandsBehind start entries IsClosed seen
+pub body_behind : (new : List ℕ → List ℕ → Type 0) (start : ℕ) (entries : List (List FileText)) (entry : List FileText)
+    (seen bytes : List ℕ) (place : ℕ)
+    → place ≡ start + length (list_bytes entries) + 1 → bytes ≡ behind_gate entry ++ 0 ∷ []
+    → StandsBehind start entries IsClosed seen
     → Only (written seen place bytes) (new journal2_name) → HasBodyBehind new start entries entry
 body_behind new start entries entry seen bytes place placed encoded there only c is =
     let size = there.size in
@@ -56,35 +64,52 @@ body_behind new start entries entry seen bytes place placed encoded there only c
       head = there.head;
       more = closed.0;
       size = size;
-      is = only c is ∙ ap (λ (s : List ℕ). written s place bytes) there.is ∙ written_over there.head entries there.rest bytes place 1 (omega (arith, size))
+      is =
+          only c is ∙ ap (λ (s : List ℕ). written s place bytes) there.is
+          ∙ written_over there.head entries there.rest bytes place 1 (omega (arith, size))
           ∙ ap (λ (l : List ℕ). there.head ++ (list_bytes entries ++ l))
           (closed.1 ∙ ap (λ (l : List ℕ). 0 ∷ (l ++ closed.0)) encoded ∙ ap (λ (l : List ℕ). 0 ∷ l) (append_assoc (behind_gate entry) (0 ∷ []) closed.0));
     }
 
 module _ {D : Type 0} (g : Ghosts D) (old new : D) (r : Result Unit Failed) (tells : g.tells old ≡ true) (start : ℕ) (entries : List (List FileText)) (place : ℕ) where
   -- what a write behind the list leaves
-  begins_step : (bytes : List ℕ) (at : ℕ) (before after : Bool) → place ≡ start + length (list_bytes entries) + at → Begins (g.may_leave old) start entries before
-      → WritesThrough g old new r journal2_name place bytes → ((rest now : List ℕ) → IsTornWrite at bytes rest now → IsBehind before rest → IsBehind after now) → Begins (g.may_leave new) start entries after
+  begins_step : (bytes : List ℕ) (at : ℕ) (before after : Bool) → place ≡ start + length (list_bytes entries) + at
+      → Begins (g.may_leave old) start entries before
+      → WritesThrough g old new r journal2_name place bytes
+      → ((rest now : List ℕ) → IsTornWrite at bytes rest now → IsBehind before rest → IsBehind after now)
+      → Begins (g.may_leave new) start entries after
   begins_step bytes at before after placed begins writes passes c is =
       let was = writes.images.this c is in
       let there = begins was.0 was.1 in
       let size = there.size in
       let torn = torn_over there.head entries there.rest bytes place at (omega (arith, size)) c (subst (λ (f : List ℕ). IsTornWrite place bytes f c) there.is was.2) in
-      record { head = there.head; rest = torn.0; size = size; is = torn.1; behind = passes there.rest torn.0 torn.2 there.behind }
+      record {
+        head = there.head;
+        rest = torn.0;
+        size = size;
+        is = torn.1;
+        behind = passes there.rest torn.0 torn.2 there.behind;
+      }
 
   -- a write behind the closed gate
-  pub begins_behind : (bytes : List ℕ) → place ≡ start + length (list_bytes entries) + 1 → Begins (g.may_leave old) start entries false → WritesThrough g old new r journal2_name place bytes
+  pub begins_behind : (bytes : List ℕ) → place ≡ start + length (list_bytes entries) + 1
+      → Begins (g.may_leave old) start entries false → WritesThrough g old new r journal2_name place bytes
       → Begins (g.may_leave new) start entries false
-  begins_behind bytes placed begins writes = begins_step bytes 1 false false placed begins writes (IsClosed-behind bytes)
+  begins_behind bytes placed begins writes =
+      begins_step bytes 1 false false placed begins writes (IsClosed-behind bytes)
 
   -- a write at the gate
-  pub begins_torn : (bytes : List ℕ) → place ≡ start + length (list_bytes entries) → Begins (g.may_leave old) start entries true → WritesThrough g old new r journal2_name place bytes
+  pub begins_torn : (bytes : List ℕ) → place ≡ start + length (list_bytes entries)
+      → Begins (g.may_leave old) start entries true → WritesThrough g old new r journal2_name place bytes
       → Begins (g.may_leave new) start entries true
-  begins_torn bytes placed begins writes = begins_step bytes 0 true true (omega arith) begins writes (λ rest now torn any. tt)
+  begins_torn bytes placed begins writes =
+      begins_step bytes 0 true true (omega arith) begins writes (λ rest now torn any. tt)
 
 -- the gate was closed
-pub begins_closed : {D : Type 0} (g : Ghosts D) (old new : D) (tells : g.tells old ≡ true) (start : ℕ) (entries : List (List FileText)) (place : ℕ) → place ≡ start + length (list_bytes entries)
-    → Begins (g.may_leave old) start entries true → WritesThrough g old new (Ok tt) journal2_name place (0 ∷ []) → Begins (g.may_leave new) start entries false
+pub begins_closed : {D : Type 0} (g : Ghosts D) (old new : D) (tells : g.tells old ≡ true) (start : ℕ)
+    (entries : List (List FileText)) (place : ℕ) → place ≡ start + length (list_bytes entries)
+    → Begins (g.may_leave old) start entries true → WritesThrough g old new (Ok tt) journal2_name place (0 ∷ [])
+    → Begins (g.may_leave new) start entries false
 begins_closed g old new tells start entries place placed begins writes c is =
     let there = begins (g.seen old journal2_name) (g.read_is_image old tells journal2_name) in
     let size = there.size in
@@ -97,8 +122,10 @@ begins_closed g old new tells start entries place placed begins writes c is =
     }
 
 -- the gate was opened on a body
-pub begins_opened : {D : Type 0} (g : Ghosts D) (old new : D) (tells : g.tells old ≡ true) (start : ℕ) (entries : List (List FileText)) (entry : List FileText) (place : ℕ)
-    → place ≡ start + length (list_bytes entries) → HasBodyBehind (g.may_leave old) start entries entry → WritesThrough g old new (Ok tt) journal2_name place (1 ∷ [])
+pub begins_opened : {D : Type 0} (g : Ghosts D) (old new : D) (tells : g.tells old ≡ true) (start : ℕ)
+    (entries : List (List FileText)) (entry : List FileText) (place : ℕ)
+    → place ≡ start + length (list_bytes entries) → HasBodyBehind (g.may_leave old) start entries entry
+    → WritesThrough g old new (Ok tt) journal2_name place (1 ∷ [])
     → Begins (g.may_leave new) start (entries ++ entry ∷ []) false
 begins_opened g old new tells start entries entry place placed body writes c is =
     let holds = body (g.seen old journal2_name) (g.read_is_image old tells journal2_name) in
@@ -114,7 +141,8 @@ begins_opened g old new tells start entries entry place placed body writes c is 
     }
 
 -- the header gate was opened on a head
-begins_headed : (leaves : List ℕ → List ℕ → Type 0) (header : List ℕ) → IsHeaderBytes header → HasOpened header leaves → Begins leaves (length header) [] false
+begins_headed : (leaves : List ℕ → List ℕ → Type 0) (header : List ℕ) → IsHeaderBytes header → HasOpened header leaves
+    → Begins leaves (length header) [] false
 begins_headed leaves header is opened c left =
     let names = is.0 in
     let there = opened c left in
@@ -128,7 +156,8 @@ begins_headed leaves header is opened c left =
     }
 
 -- where the gate behind a list with one entry more stands
-pub place_after : (entries : List (List FileText)) (entry : List FileText) → length (list_bytes (entries ++ entry ∷ [])) ≡ length (list_bytes entries) + head_size + length (spelled_on entry)
+pub place_after : (entries : List (List FileText)) (entry : List FileText)
+    → length (list_bytes (entries ++ entry ∷ [])) ≡ length (list_bytes entries) + head_size + length (spelled_on entry)
 place_after entries entry =
     let sized = ap length (list_bytes-append entries (entry ∷ [])) in
     let joined = length-append (list_bytes entries) (list_bytes (entry ∷ [])) in
@@ -139,7 +168,8 @@ pub no_list : IsList []
 no_list = record { few = omega arith; within = omega arith; each = tt }
 
 -- a list with room for an entry may get it
-pub list_more : (entries : List (List FileText)) (entry : List FileText) (size : ℕ) → IsList entries → IsEntry entry → size ≡ length (spelled_on entry) → has_room entries size ≡ true
+pub list_more : (entries : List (List FileText)) (entry : List FileText) (size : ℕ) → IsList entries → IsEntry entry
+    → size ≡ length (spelled_on entry) → has_room entries size ≡ true
     → IsList (entries ++ entry ∷ [])
 list_more entries entry size fits is sized room =
     let parts = and_parts (nat_lt (length entries) most_entries) (nat_le (length (list_bytes entries) + head_size + size) last_place) room in
@@ -152,7 +182,8 @@ list_more entries entry size fits is sized room =
     }
 
 -- and it fits where the header names the entry's files
-pub fits_more : (names : List (List ℕ)) (entries : List (List FileText)) (entry : List FileText) → Fits (listed names) entries → IsAllowed (listed names) entry → IsList (entries ++ entry ∷ [])
+pub fits_more : (names : List (List ℕ)) (entries : List (List FileText)) (entry : List FileText)
+    → Fits (listed names) entries → IsAllowed (listed names) entry → IsList (entries ++ entry ∷ [])
     → Fits (listed names) (entries ++ entry ∷ [])
 fits_more names entries entry fits allowed list = record {
   few = list.few;
@@ -166,7 +197,8 @@ pub record HasPlace (entries : List (List FileText)) (entry : List FileText) : T
   pub few : length entries < most_entries
   pub within : length (list_bytes entries) + head_size + length (spelled_on entry) ≤ last_place
 
-pub place_of : (entries : List (List FileText)) (entry : List FileText) → IsList (entries ++ entry ∷ []) → HasPlace entries entry
+pub place_of : (entries : List (List FileText)) (entry : List FileText) → IsList (entries ++ entry ∷ [])
+    → HasPlace entries entry
 place_of entries entry fits = record {
   is = (all_back IsEntry entries (entry ∷ []) fits.each).0;
   few = omega (arith, fits.few, length-append entries (entry ∷ []));
@@ -176,20 +208,25 @@ place_of entries entry fits = record {
 -- ---- what is always true of a journal, kept by its steps
 
 -- a journal without a header has no bytes before its next gate
-pub bare_place : (tells : Bool) (leaves : List ℕ → List ℕ → Type 0) (name : List ℕ) (place : ℕ) (headed : Bool) (start : ℕ) (list : List (List FileText)) (in_doubt : Bool) (size : ℕ)
+pub bare_place : (tells : Bool) (leaves : List ℕ → List ℕ → Type 0) (name : List ℕ) (place : ℕ) (headed : Bool)
+    (start : ℕ) (list : List (List FileText)) (in_doubt : Bool) (size : ℕ)
     → IsSound tells leaves name place headed start list in_doubt size → headed ≡ false → place ≡ 0
 bare_place tells leaves name place headed start list in_doubt size sound is_bare =
     let bare = sound.bare is_bare in
     sound.placed ∙ ap₂ (λ (n : ℕ) (l : List (List FileText)). n + length (list_bytes l)) bare.0 bare.1
 
 -- what is written into the journal's file is written into that of its name
-pub named_writes : {D : Type 0} (g : Ghosts D) (old new : D) (r : Result Unit Failed) (name : List ℕ) (at : ℕ) (bytes : List ℕ) → name ≡ journal2_name
+pub named_writes : {D : Type 0} (g : Ghosts D) (old new : D) (r : Result Unit Failed) (name : List ℕ) (at : ℕ)
+    (bytes : List ℕ) → name ≡ journal2_name
     → WritesThrough g old new r name at bytes → WritesThrough g old new r journal2_name at bytes
-named_writes g old new r name at bytes named writes = subst (λ (n : List ℕ). WritesThrough g old new r n at bytes) named writes
+named_writes g old new r name at bytes named writes =
+    subst (λ (n : List ℕ). WritesThrough g old new r n at bytes) named writes
 
 -- only files that the list may name were left with other images
-pub sound_kept : (tells now : Bool) (old new : List ℕ → List ℕ → Type 0) (name : List ℕ) (place : ℕ) (headed : Bool) (start : ℕ) (list : List (List FileText)) (in_doubt : Bool) (size : ℕ)
-    → IsSound tells old name place headed start list in_doubt size → now ≡ tells → (tells ≡ true → (c : List ℕ) → new journal2_name c → old journal2_name c)
+pub sound_kept : (tells now : Bool) (old new : List ℕ → List ℕ → Type 0) (name : List ℕ) (place : ℕ) (headed : Bool)
+    (start : ℕ) (list : List (List FileText)) (in_doubt : Bool) (size : ℕ)
+    → IsSound tells old name place headed start list in_doubt size → now ≡ tells
+    → (tells ≡ true → (c : List ℕ) → new journal2_name c → old journal2_name c)
     → IsSound now new name place headed start list in_doubt size
 sound_kept tells now old new name place headed start list in_doubt size sound same kept = record {
   named = sound.named;
@@ -202,8 +239,10 @@ sound_kept tells now old new name place headed start list in_doubt size sound sa
 }
 
 -- the list is empty, and the gate before it in doubt
-pub sound_emptied : (tells : Bool) (leaves : List ℕ → List ℕ → Type 0) (name : List ℕ) (place : ℕ) (headed : Bool) (start : ℕ) (list none : List (List FileText)) (in_doubt now : Bool) (size room : ℕ)
-    → IsSound tells leaves name place headed start list in_doubt size → headed ≡ true → none ≡ [] → now ≡ true → room ≡ size → IsSound tells leaves name start headed start none now room
+pub sound_emptied : (tells : Bool) (leaves : List ℕ → List ℕ → Type 0) (name : List ℕ) (place : ℕ) (headed : Bool)
+    (start : ℕ) (list none : List (List FileText)) (in_doubt now : Bool) (size room : ℕ)
+    → IsSound tells leaves name place headed start list in_doubt size → headed ≡ true → none ≡ [] → now ≡ true
+    → room ≡ size → IsSound tells leaves name start headed start none now room
 sound_emptied tells leaves name place headed start list none in_doubt now size room sound is_headed empty doubted same =
     subst (λ (l : List (List FileText)). IsSound tells leaves name start headed start l now room) (sym empty)
     (subst (λ (b : Bool). IsSound tells leaves name start headed start [] b room) (sym doubted) (record {
@@ -224,7 +263,8 @@ module _ {D : Type 0} (g : Ghosts D) (old new : D) (name : List ℕ) (place : �
   told_then told = sym goes.tells ∙ told
 
   -- a write at the gate may have failed
-  pub sound_torn : (r : Result Unit Failed) (bytes : List ℕ) (now : Bool) → now ≡ true → (g.tells old ≡ true → WritesThrough g old new r journal2_name place bytes)
+  pub sound_torn : (r : Result Unit Failed) (bytes : List ℕ) (now : Bool) → now ≡ true
+      → (g.tells old ≡ true → WritesThrough g old new r journal2_name place bytes)
       → IsSound (g.tells new) (g.may_leave new) name place headed start list now size
   sound_torn r bytes now doubted writes = record {
     named = sound.named;
@@ -240,7 +280,8 @@ module _ {D : Type 0} (g : Ghosts D) (old new : D) (name : List ℕ) (place : �
   }
 
   -- the gate was closed
-  pub sound_closed : (g.tells old ≡ true → WritesThrough g old new (Ok tt) journal2_name place (0 ∷ [])) → IsSound (g.tells new) (g.may_leave new) name place headed start list false size
+  pub sound_closed : (g.tells old ≡ true → WritesThrough g old new (Ok tt) journal2_name place (0 ∷ []))
+      → IsSound (g.tells new) (g.may_leave new) name place headed start list false size
   sound_closed writes = record {
     named = sound.named;
     placed = sound.placed;
@@ -254,7 +295,8 @@ module _ {D : Type 0} (g : Ghosts D) (old new : D) (name : List ℕ) (place : �
   }
 
   -- a body was written behind the closed gate
-  pub sound_behind : (r : Result Unit Failed) (bytes : List ℕ) → in_doubt ≡ false → (g.tells old ≡ true → WritesThrough g old new r journal2_name (place + 1) bytes)
+  pub sound_behind : (r : Result Unit Failed) (bytes : List ℕ) → in_doubt ≡ false
+      → (g.tells old ≡ true → WritesThrough g old new r journal2_name (place + 1) bytes)
       → IsSound (g.tells new) (g.may_leave new) name place headed start list in_doubt size
   sound_behind r bytes sure writes = record {
     named = sound.named;
@@ -271,9 +313,12 @@ module _ {D : Type 0} (g : Ghosts D) (old new : D) (name : List ℕ) (place : �
   }
 
   -- the gate was opened on an entry's body
-  pub sound_opened : (entry : List FileText) (longer : List (List FileText)) (ends more : ℕ) → headed ≡ true → longer ≡ list ++ entry ∷ [] → ends ≡ place + head_size + length (spelled_on entry)
-      → more ≡ size → IsList (list ++ entry ∷ []) → (g.tells old ≡ true → HasBodyBehind (g.may_leave old) start list entry)
-      → (g.tells old ≡ true → WritesThrough g old new (Ok tt) journal2_name place (1 ∷ [])) → IsSound (g.tells new) (g.may_leave new) name ends headed start longer false more
+  pub sound_opened : (entry : List FileText) (longer : List (List FileText)) (ends more : ℕ) → headed ≡ true
+      → longer ≡ list ++ entry ∷ [] → ends ≡ place + head_size + length (spelled_on entry)
+      → more ≡ size → IsList (list ++ entry ∷ [])
+      → (g.tells old ≡ true → HasBodyBehind (g.may_leave old) start list entry)
+      → (g.tells old ≡ true → WritesThrough g old new (Ok tt) journal2_name place (1 ∷ []))
+      → IsSound (g.tells new) (g.may_leave new) name ends headed start longer false more
   sound_opened entry longer ends more is_headed added placed same fits body writes =
       subst (λ (l : List (List FileText)). IsSound (g.tells new) (g.may_leave new) name ends headed start l false more) (sym added) (record {
         named = sound.named;
@@ -286,7 +331,8 @@ module _ {D : Type 0} (g : Ghosts D) (old new : D) (name : List ℕ) (place : �
       })
 
   -- a head may have been written, and its gate be in doubt
-  pub sound_headless : (now : Bool) → headed ≡ false → now ≡ true → IsSound (g.tells new) (g.may_leave new) name place headed start list now size
+  pub sound_headless : (now : Bool) → headed ≡ false → now ≡ true
+      → IsSound (g.tells new) (g.may_leave new) name place headed start list now size
   sound_headless now is_bare doubted =
       let bare = sound.bare is_bare in
       record {
@@ -303,8 +349,10 @@ module _ {D : Type 0} (g : Ghosts D) (old new : D) (name : List ℕ) (place : �
       }
 
   -- a head was written, and its gate opened
-  pub sound_headed : (header : List ℕ) (begin ends : ℕ) → headed ≡ false → IsHeaderBytes header → begin ≡ length header → ends ≡ length header
-      → (g.tells old ≡ true → HasOpened header (g.may_leave new)) → IsSound (g.tells new) (g.may_leave new) name ends true begin list false size
+  pub sound_headed : (header : List ℕ) (begin ends : ℕ) → headed ≡ false → IsHeaderBytes header → begin ≡ length header
+      → ends ≡ length header
+      → (g.tells old ≡ true → HasOpened header (g.may_leave new))
+      → IsSound (g.tells new) (g.may_leave new) name ends true begin list false size
   sound_headed header begin ends is_bare is begins ended opened =
       let names = is.0 in
       let bytes = ap length (is.2 ∙ header_bytes_is names) in
@@ -320,8 +368,10 @@ module _ {D : Type 0} (g : Ghosts D) (old new : D) (name : List ℕ) (place : �
       })
 
 -- a list in doubt whose gate is known to be closed
-pub listed_from : (leaves : List ℕ → List ℕ → Type 0) (names : List (List ℕ)) (before : Image) (start : ℕ) (entries : List (List FileText)) (doubt : Option (List FileText)) (b : Bool)
-    → IsInDoubt leaves names before entries doubt → start ≡ front_size names → b ≡ false → Begins leaves start entries b → IsListed leaves names before entries
+pub listed_from : (leaves : List ℕ → List ℕ → Type 0) (names : List (List ℕ)) (before : Image) (start : ℕ)
+    (entries : List (List FileText)) (doubt : Option (List FileText)) (b : Bool)
+    → IsInDoubt leaves names before entries doubt → start ≡ front_size names → b ≡ false → Begins leaves start entries b
+    → IsListed leaves names before entries
 listed_from leaves names before start entries doubt b state starts sure begins = record {
   same = state.same;
   former = state.former;
@@ -336,7 +386,8 @@ listed_from leaves names before start entries doubt b state starts sure begins =
 }
 
 -- and a head
-pub bare_from : (leaves : List ℕ → List ℕ → Type 0) (files : Image) (start : ℕ) (entries : List (List FileText)) (doubt : Option (List FileText)) (b : Bool) → IsHeadInDoubt leaves files doubt
+pub bare_from : (leaves : List ℕ → List ℕ → Type 0) (files : Image) (start : ℕ) (entries : List (List FileText))
+    (doubt : Option (List FileText)) (b : Bool) → IsHeadInDoubt leaves files doubt
     → (start ≡ 0) × (entries ≡ []) → b ≡ false → Begins leaves start entries b → IsBare leaves files
 bare_from leaves files start entries doubt b state bare sure begins = record {
   same = state.same;

@@ -51,7 +51,8 @@ module _ {D : Type 0} (g : Ghosts D) (old new : D) (r : Result Unit Failed) (tel
 
   module _ (names : List (List ℕ)) (before : Image) (entries : List (List FileText)) where
     -- closing a gate in doubt
-    pub settling : (doubt : Option (List FileText)) (place : ℕ) → place ≡ front_size names + length (list_bytes entries) → IsInDoubt (g.may_leave old) names before entries doubt
+    pub settling : (doubt : Option (List FileText)) (place : ℕ) → place ≡ front_size names + length (list_bytes entries)
+        → IsInDoubt (g.may_leave old) names before entries doubt
         → WritesThrough g old new r journal2_name place (0 ∷ [])
         → Passes g old new r (λ leaves. IsListed leaves names before entries) (λ leaves. IsInDoubt leaves names before entries doubt) (IsEither (with_entries before entries) doubt)
     settling doubt place placed state =
@@ -61,7 +62,8 @@ module _ {D : Type 0} (g : Ghosts D) (old new : D) (r : Result Unit Failed) (tel
         (listed_closed (g.may_leave old) (g.may_leave new) names before entries (g.seen old journal2_name) doubt place placed state seen_is)
 
     -- writing behind the closed gate
-    pub putting : (place : ℕ) (bytes : List ℕ) → place ≡ front_size names + length (list_bytes entries) + 1 → IsListed (g.may_leave old) names before entries
+    pub putting : (place : ℕ) (bytes : List ℕ) → place ≡ front_size names + length (list_bytes entries) + 1
+        → IsListed (g.may_leave old) names before entries
         → WritesThrough g old new r journal2_name place bytes
         → Passes g old new r (λ leaves. IsListed leaves names before entries) (λ leaves. IsListed leaves names before entries) (IsOutcome (with_entries before entries))
     putting place bytes placed state =
@@ -71,8 +73,10 @@ module _ {D : Type 0} (g : Ghosts D) (old new : D) (r : Result Unit Failed) (tel
         (λ step only. listed_behind (g.may_leave old) (g.may_leave new) names before entries bytes place placed state step)
 
     -- opening the gate on a body
-    pub opening : (entry : List FileText) (place start : ℕ) → place ≡ front_size names + length (list_bytes entries) → start ≡ front_size names → Fits (listed names) (entries ++ entry ∷ [])
-        → IsListed (g.may_leave old) names before entries → HasBodyBehind (g.may_leave old) start entries entry → WritesThrough g old new r journal2_name place (1 ∷ [])
+    pub opening : (entry : List FileText) (place start : ℕ) → place ≡ front_size names + length (list_bytes entries)
+        → start ≡ front_size names → Fits (listed names) (entries ++ entry ∷ [])
+        → IsListed (g.may_leave old) names before entries → HasBodyBehind (g.may_leave old) start entries entry
+        → WritesThrough g old new r journal2_name place (1 ∷ [])
         → Passes g old new r (λ leaves. IsListed leaves names before (entries ++ entry ∷ [])) (λ leaves. IsInDoubt leaves names before entries (Some entry))
         (IsEither (with_entries before entries) (Some entry))
     opening entry place start placed starts fits state body =
@@ -83,7 +87,8 @@ module _ {D : Type 0} (g : Ghosts D) (old new : D) (r : Result Unit Failed) (tel
         (listed_opened (g.may_leave old) (g.may_leave new) names before entries entry (g.seen old journal2_name) place start placed starts state fits seen_is (body (g.seen old journal2_name) seen_is))
 
     -- files that the list names may change while its gates are open
-    pub keeping : IsListed (g.may_leave old) names before entries → ((other : List ℕ) → content_in (as_one entries) other ≡ None → KeepsImagesOf other (g.may_leave old) (g.may_leave new))
+    pub keeping : IsListed (g.may_leave old) names before entries
+        → ((other : List ℕ) → content_in (as_one entries) other ≡ None → KeepsImagesOf other (g.may_leave old) (g.may_leave new))
         → AddsOnly g old new (KeepsUnnamed (as_one entries) (g.may_leave old))
         → Passes g old new r (λ leaves. IsListed leaves names before entries) (λ leaves. IsListed leaves names before entries) (IsOutcome (with_entries before entries))
     keeping state others time =
@@ -100,7 +105,8 @@ module _ {D : Type 0} (g : Ghosts D) (old new : D) (r : Result Unit Failed) (tel
         }
 
     -- and so do texts of the list
-    pub bringing : (brought : Result Unit Failed) → IsListed (g.may_leave old) names before entries → Brings g old new brought (as_one entries) []
+    pub bringing : (brought : Result Unit Failed) → IsListed (g.may_leave old) names before entries
+        → Brings g old new brought (as_one entries) []
         → Passes g old new r (λ leaves. IsListed leaves names before entries) (λ leaves. IsListed leaves names before entries) (IsOutcome (with_entries before entries))
     bringing brought state brings = keeping state (λ other none. brings.kept other (inl none)) brings.time
 
@@ -122,7 +128,8 @@ module _ {D : Type 0} (g : Ghosts D) (old new : D) (r : Result Unit Failed) (tel
 
   module _ (files : Image) where
     -- closing the header gate in doubt
-    pub baring : (doubt : Option (List FileText)) → IsHeadInDoubt (g.may_leave old) files doubt → WritesThrough g old new r journal2_name 0 (0 ∷ [])
+    pub baring : (doubt : Option (List FileText)) → IsHeadInDoubt (g.may_leave old) files doubt
+        → WritesThrough g old new r journal2_name 0 (0 ∷ [])
         → Passes g old new r (λ leaves. IsBare leaves files) (λ leaves. IsHeadInDoubt leaves files doubt) (IsEither files doubt)
     baring doubt state =
         wrote (λ leaves. IsBare leaves files) (λ leaves. IsHeadInDoubt leaves files doubt) (IsEither files doubt) 0 (0 ∷ [])
@@ -139,7 +146,8 @@ module _ {D : Type 0} (g : Ghosts D) (old new : D) (r : Result Unit Failed) (tel
         (λ step only. head_behind (g.may_leave old) (g.may_leave new) files bytes state step)
 
     -- opening the header gate on a head
-    pub unbaring : (names : List (List ℕ)) → IsHeader names → IsBare (g.may_leave old) files → HasHead (g.may_leave old) names → WritesThrough g old new r journal2_name 0 (1 ∷ [])
+    pub unbaring : (names : List (List ℕ)) → IsHeader names → IsBare (g.may_leave old) files
+        → HasHead (g.may_leave old) names → WritesThrough g old new r journal2_name 0 (1 ∷ [])
         → Passes g old new r (λ leaves. IsListed leaves names files []) (λ leaves. IsHeadInDoubt leaves files None) (IsOutcome files)
     unbaring names header state head =
         wrote (λ leaves. IsListed leaves names files []) (λ leaves. IsHeadInDoubt leaves files None) (IsOutcome files) 0 (1 ∷ [])
@@ -148,11 +156,13 @@ module _ {D : Type 0} (g : Ghosts D) (old new : D) (r : Result Unit Failed) (tel
         (head_opened (g.may_leave old) (g.may_leave new) files names (g.seen old journal2_name) header state (head (g.seen old journal2_name) seen_is))
 
 -- texts that no later ones name
-pub brought_all : (leaves : List ℕ → List ℕ → Type 0) (texts : List FileText) → HasBroughtFirst texts [] leaves → HasBrought leaves texts
+pub brought_all : (leaves : List ℕ → List ℕ → Type 0) (texts : List FileText) → HasBroughtFirst texts [] leaves
+    → HasBrought leaves texts
 brought_all leaves texts brought file bytes is = brought file bytes is refl
 
 -- a step behind another
-pub passes_behind : {D : Type 0} (g : Ghosts D) (old mid new : D) (first r : Result Unit Failed) (A B Done Undone : (List ℕ → List ℕ → Type 0) → Type 0) (P : Image → Type 0) → Passes g old mid first A B P
+pub passes_behind : {D : Type 0} (g : Ghosts D) (old mid new : D) (first r : Result Unit Failed)
+    (A B Done Undone : (List ℕ → List ℕ → Type 0) → Type 0) (P : Image → Type 0) → Passes g old mid first A B P
     → g.moment old ≤ g.moment mid → Passes g mid new r Done Undone P → Passes g old new r Done Undone P
 passes_behind g old mid new first r A B Done Undone P so_far later next = record {
   ok = next.ok;
@@ -164,21 +174,27 @@ passes_behind g old mid new first r A B Done Undone P so_far later next = record
 }
 
 -- a step that failed may be told of another failure
-pub failed_passes : {D : Type 0} (g : Ghosts D) (old new : D) (e : Failed) (other : Result Unit Failed) (Done Undone : (List ℕ → List ℕ → Type 0) → Type 0) (P : Image → Type 0) → IsErr other
+pub failed_passes : {D : Type 0} (g : Ghosts D) (old new : D) (e : Failed) (other : Result Unit Failed)
+    (Done Undone : (List ℕ → List ℕ → Type 0) → Type 0) (P : Image → Type 0) → IsErr other
     → Passes g old new (Err e) Done Undone P → Passes g old new other Done Undone P
 failed_passes g old new e (Ok x) Done Undone P failed passes = absurd (cc)
-failed_passes g old new e (Err f) Done Undone P failed passes = record { ok = tt; err = passes.err; any_moment = passes.any_moment }
+failed_passes g old new e (Err f) Done Undone P failed passes =
+    record { ok = tt; err = passes.err; any_moment = passes.any_moment }
 
 -- a head that was not written whole
-pub heading_failed : {D : Type 0} (g : Ghosts D) (old new : D) (r : Result Unit Failed) (names : List (List ℕ)) (files : Image) → IsErr r
+pub heading_failed : {D : Type 0} (g : Ghosts D) (old new : D) (r : Result Unit Failed) (names : List (List ℕ))
+    (files : Image) → IsErr r
     → Passes g old new r (λ leaves. IsBare leaves files) (λ leaves. IsBare leaves files) (IsOutcome files)
     → Passes g old new r (λ leaves. IsListed leaves names files []) (λ leaves. IsHeadInDoubt leaves files None) (IsOutcome files)
 heading_failed g old new (Ok x) names files failed passes = absurd (cc)
-heading_failed g old new (Err e) names files failed passes = record { ok = tt; err = bare_doubt (g.may_leave new) files None passes.err; any_moment = passes.any_moment }
+heading_failed g old new (Err e) names files failed passes =
+    record { ok = tt; err = bare_doubt (g.may_leave new) files None passes.err; any_moment = passes.any_moment }
 
 -- a head that was, and the header gate behind it
-pub headed : {D : Type 0} (g : Ghosts D) (old mid new : D) (r : Result Unit Failed) (names : List (List ℕ)) (files : Image) (header : List ℕ) → g.tells old ≡ true → header ≡ header_bytes names
-    → IsHeader names → IsBare (g.may_leave old) files → GoesOn g old mid → WritesThrough g old mid (Ok tt) journal2_name 1 header → WritesThrough g mid new r journal2_name 0 (1 ∷ [])
+pub headed : {D : Type 0} (g : Ghosts D) (old mid new : D) (r : Result Unit Failed) (names : List (List ℕ))
+    (files : Image) (header : List ℕ) → g.tells old ≡ true → header ≡ header_bytes names
+    → IsHeader names → IsBare (g.may_leave old) files → GoesOn g old mid
+    → WritesThrough g old mid (Ok tt) journal2_name 1 header → WritesThrough g mid new r journal2_name 0 (1 ∷ [])
     → Passes g old new r (λ leaves. IsListed leaves names files []) (λ leaves. IsHeadInDoubt leaves files None) (IsOutcome files)
 headed g old mid new r names files header tells is header_is state goes first second =
     let passes = heading g old mid (Ok tt) tells files header state first in
@@ -188,20 +204,24 @@ headed g old mid new r names files header tells is header_is state goes first se
     (IsOutcome files) passes goes.moment (unbaring g mid new r (goes.tells ∙ tells) files names header_is passes.ok head second)
 
 -- what stands in the journal then
-pub header_there : {D : Type 0} (g : Ghosts D) (old mid new : D) (r : Result Unit Failed) (header : List ℕ) → g.tells old ≡ true → 1 ≤ length (g.seen old journal2_name) → GoesOn g old mid
-    → WritesThrough g old mid (Ok tt) journal2_name 1 header → WritesThrough g mid new r journal2_name 0 (1 ∷ []) → OnOk r (HasOpened header (g.may_leave new))
+pub header_there : {D : Type 0} (g : Ghosts D) (old mid new : D) (r : Result Unit Failed) (header : List ℕ)
+    → g.tells old ≡ true → 1 ≤ length (g.seen old journal2_name) → GoesOn g old mid
+    → WritesThrough g old mid (Ok tt) journal2_name 1 header → WritesThrough g mid new r journal2_name 0 (1 ∷ [])
+    → OnOk r (HasOpened header (g.may_leave new))
 header_there g old mid new r header tells there goes first second =
     on_ok_weaker r (λ only c left.
     let was = first.durable (g.seen mid journal2_name) (g.read_is_image mid (goes.tells ∙ tells) journal2_name) in
     let bytes = opened_bytes (g.seen old journal2_name) header there in
     (bytes.0, only c left ∙ ap (λ (s : List ℕ). written s 0 (1 ∷ [])) was ∙ bytes.1)) second.durable
   where
-    opened_bytes : (seen header : List ℕ) → 1 ≤ length seen → (rest : List ℕ) × (written (written seen 1 header) 0 (1 ∷ []) ≡ 1 ∷ (header ++ rest))
+    opened_bytes : (seen header : List ℕ) → 1 ≤ length seen
+        → (rest : List ℕ) × (written (written seen 1 header) 0 (1 ∷ []) ≡ 1 ∷ (header ++ rest))
     opened_bytes [] header there = absurd (omega arith)
     opened_bytes (x ∷ seen) header there = (drop (1 + length header) (x ∷ seen), refl)
 
 -- all files of the list get their contents, and the list is closed
-pub finishing : {D : Type 0} (g : Ghosts D) (old mid new : D) (r : Result Unit Failed) (names : List (List ℕ)) (before : Image) (entries : List (List FileText)) → g.tells old ≡ true
+pub finishing : {D : Type 0} (g : Ghosts D) (old mid new : D) (r : Result Unit Failed) (names : List (List ℕ))
+    (before : Image) (entries : List (List FileText)) → g.tells old ≡ true
     → IsListed (g.may_leave old) names before entries → GoesOn g old mid → Brings g old mid (Ok tt) (as_one entries) []
     → (IsInDoubt (g.may_leave mid) names (with_entries before entries) [] None
     → Passes g mid new r (λ leaves. IsListed leaves names (with_entries before entries) []) (λ leaves. IsInDoubt leaves names (with_entries before entries) [] None) (IsEither (with_entries before entries) None))
@@ -213,13 +233,16 @@ finishing g old mid new r names before entries tells state goes brings settles =
     (closing g mid new r (goes.tells ∙ tells) names before entries brought.ok (brought_all (g.may_leave mid) (as_one entries) brings.durable) settles)
 
 -- what a finish leaves that failed
-pub unfinished_lag : (b : Bool) (names : List (List ℕ)) (before : Image) (entries : List (List FileText)) (leaves : List ℕ → List ℕ → Type 0) (r : Result Unit Failed) → b ≡ false
+pub unfinished_lag : (b : Bool) (names : List (List ℕ)) (before : Image) (entries : List (List FileText))
+    (leaves : List ℕ → List ℕ → Type 0) (r : Result Unit Failed) → b ≡ false
     → OnErr r (IsListed leaves names before entries) → OnErr r (IsUnfinished b names before entries leaves)
 unfinished_lag true names before entries leaves r sure listed = absurd (cc)
 unfinished_lag false names before entries leaves r sure listed = listed
 
-pub unfinished_doubt : (b : Bool) (names : List (List ℕ)) (before : Image) (entries : List (List FileText)) (leaves : List ℕ → List ℕ → Type 0) (r : Result Unit Failed) → OnErr r (b ≡ true)
-    → OnErr r (IsInDoubt leaves names (with_entries before entries) [] None) → OnErr r (IsUnfinished b names before entries leaves)
+pub unfinished_doubt : (b : Bool) (names : List (List ℕ)) (before : Image) (entries : List (List FileText))
+    (leaves : List ℕ → List ℕ → Type 0) (r : Result Unit Failed) → OnErr r (b ≡ true)
+    → OnErr r (IsInDoubt leaves names (with_entries before entries) [] None)
+    → OnErr r (IsUnfinished b names before entries leaves)
 unfinished_doubt b names before entries leaves (Ok x) is doubtful = tt
 unfinished_doubt true names before entries leaves (Err e) is doubtful = doubtful
 unfinished_doubt false names before entries leaves (Err e) is doubtful = absurd (cc)

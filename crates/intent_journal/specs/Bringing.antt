@@ -14,7 +14,8 @@ IsPassed texts later file = (content_in texts file ≡ None) ⊎ (content_in lat
 
 -- each file that the texts name and no later ones has its content
 abbrev pub HasBroughtFirst : List FileText → List FileText → (List ℕ → List ℕ → Type 0) → Type 0
-HasBroughtFirst texts later leaves = (file bytes : List ℕ) → content_in texts file ≡ Some bytes → content_in later file ≡ None → Only bytes (leaves file)
+HasBroughtFirst texts later leaves =
+    (file bytes : List ℕ) → content_in texts file ≡ Some bytes → content_in later file ≡ None → Only bytes (leaves file)
 
 -- the texts went into their files, but for those that later ones name, and other files were left alone
 pub record Brings {D : Type 0} (g : Ghosts D) (old new : D) (result : Result Unit Failed) (texts later : List FileText) : Type 0 where

@@ -34,7 +34,8 @@ state_of journal = if journal.in_doubt then Doubt else resting journal.headed jo
 
 -- a list has room for one more entry with a body of this size
 abbrev pub has_room : List (List FileText) → ℕ → Bool
-has_room list size = nat_lt (length list) most_entries && nat_le (length (list_bytes list) + head_size + size) last_place
+has_room list size =
+    nat_lt (length list) most_entries && nat_le (length (list_bytes list) + head_size + size) last_place
 
 -- what stands behind a list: a gate that is closed, or anything where it is in doubt
 abbrev pub IsBehind : Bool → List ℕ → Type 0

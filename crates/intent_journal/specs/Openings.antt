@@ -19,7 +19,8 @@ use Rattle.intent_journal.specs.States.{IsRetired, IsHeadInDoubt, HoldsNone, IsC
 
 -- whatever files a calm disk that tells has, and whatever is in doubt on it
 abbrev pub WhereCalm : {D : Type 0} → Ghosts D → D → (Image → Option (List FileText) → Type 0) → Type 0
-WhereCalm g disk P = g.tells disk ≡ true → (files : Image) (doubt : Option (List FileText)) → IsCalm (g.seen disk) (g.may_leave disk) files doubt → P files doubt
+WhereCalm g disk P =
+    g.tells disk ≡ true → (files : Image) (doubt : Option (List FileText)) → IsCalm (g.seen disk) (g.may_leave disk) files doubt → P files doubt
 
 -- the files are these, whatever is in doubt at the header gate: nothing, where open entries were brought in
 pub record IsOpened (leaves : List ℕ → List ℕ → Type 0) (files : Image) (found : List (List FileText)) : Type 0 where
@@ -53,16 +54,19 @@ pub record OpensList {D : Type 0} (g : Ghosts D) (old new : D) (found : Result (
   pub good : g.tells old ≡ true → IfOk found (λ list. found_in (g.seen old) ≡ Ok list)
   pub opens : g.tells old ≡ true → IfOk found (λ list. OpensAs (g.seen old) list)
   pub bad : g.tells old ≡ true → (at : ℕ) → found ≡ Err (BadJournal at) → found_in (g.seen old) ≡ Err (BadJournal at)
-  pub unknown : g.tells old ≡ true → (version : ℕ) → found ≡ Err (UnknownVersion version) → found_in (g.seen old) ≡ Err (UnknownVersion version)
+  pub unknown : g.tells old ≡ true → (version : ℕ) → found ≡ Err (UnknownVersion version)
+      → found_in (g.seen old) ≡ Err (UnknownVersion version)
   pub calm : WhereCalm g old (λ files doubt. IfErr found (λ fault. found_in (g.seen old) ≡ Err fault → ⊥))
   pub leaves : WhereCalm g old (OpensCalm g old new found)
   -- where there is a former journal, it is retired for good
   pub retired : g.tells old ≡ true → ¬ HasNoFormer (g.seen old) → IfOk found (λ list. IsRetired (g.may_leave new))
-  pub retires : g.tells old ≡ true → ¬ IsKept (g.seen old) → IfErr found (λ fault. fault ≢ DiskFault → fault ≢ Memory → LeavesRetired g old new)
+  pub retires : g.tells old ≡ true → ¬ IsKept (g.seen old)
+      → IfErr found (λ fault. fault ≢ DiskFault → fault ≢ Memory → LeavesRetired g old new)
   -- where there is none, and no open entry, the disk is only read; and so it is before most refusals
   pub none : g.tells old ≡ true → HasNoFormer (g.seen old) → open_list (g.seen old) ≡ [] → OnlyReads g old new
   pub kept : g.tells old ≡ true → IsKept (g.seen old) → IfErr found (λ fault. fault ≢ DiskFault → OnlyReads g old new)
-  pub stays : g.tells old ≡ true → (fault : JournalFault) → found_in (g.seen old) ≡ Err fault → IsKept (g.seen old) → OnlyReads g old new
+  pub stays : g.tells old ≡ true → (fault : JournalFault) → found_in (g.seen old) ≡ Err fault → IsKept (g.seen old)
+      → OnlyReads g old new
   pub goes : GoesOn g old new
   pub cause : found ≡ Err DiskFault → HasRisen (g.faults old) (g.faults new)
 
@@ -85,7 +89,8 @@ pub record RetiresCalm {D : Type 0} (g : Ghosts D) (old new : D) (former : Resul
 pub record RetiresFormer {D : Type 0} (g : Ghosts D) (old new : D) (former : Result (List (List FileText)) JournalFault) : Type 0 where
   pub entries : IfOk former (λ list. AllByRecursion IsEntry list)
   pub good : g.tells old ≡ true → IfOk former (λ list. former_in (g.seen old journal_name) ≡ Ok list)
-  pub bad : g.tells old ≡ true → (at : ℕ) → former ≡ Err (BadJournal at) → former_in (g.seen old journal_name) ≡ Err (BadJournal at)
+  pub bad : g.tells old ≡ true → (at : ℕ) → former ≡ Err (BadJournal at)
+      → former_in (g.seen old journal_name) ≡ Err (BadJournal at)
   pub known : (version : ℕ) → former ≢ Err (UnknownVersion version)
   pub leaves : WhereCalm g old (RetiresCalm g old new former)
   pub retired : g.tells old ≡ true → ¬ HasNoFormer (g.seen old) → IfOk former (λ list. IsRetired (g.may_leave new))
@@ -94,7 +99,8 @@ pub record RetiresFormer {D : Type 0} (g : Ghosts D) (old new : D) (former : Res
   pub journal : g.tells old ≡ true → g.seen new journal2_name ≡ g.seen old journal2_name
   pub none : g.tells old ≡ true → HasNoFormer (g.seen old) → OnlyReads g old new
   pub kept : g.tells old ≡ true → IfErr former (λ fault. fault ≢ DiskFault → OnlyReads g old new)
-  pub stays : g.tells old ≡ true → (fault : JournalFault) → former_in (g.seen old journal_name) ≡ Err fault → OnlyReads g old new
+  pub stays : g.tells old ≡ true → (fault : JournalFault) → former_in (g.seen old journal_name) ≡ Err fault
+      → OnlyReads g old new
   pub goes : GoesOn g old new
   pub cause : former ≡ Err DiskFault → HasRisen (g.faults old) (g.faults new)
 
@@ -104,13 +110,16 @@ pub record RetiresFormer {D : Type 0} (g : Ghosts D) (old new : D) (former : Res
 pub record OpensBehind {D : Type 0} (g : Ghosts D) (old new : D) (found : Result (List (List FileText)) JournalFault) : Type 0 where
   pub entries : IfOk found (λ list. AllByRecursion IsEntry list)
   pub good : g.tells old ≡ true → IfOk found (λ list. journal_in (g.seen old journal2_name) ≡ Ok list)
-  pub bad : g.tells old ≡ true → (at : ℕ) → found ≡ Err (BadJournal at) → journal_in (g.seen old journal2_name) ≡ Err (BadJournal at)
-  pub unknown : g.tells old ≡ true → (version : ℕ) → found ≡ Err (UnknownVersion version) → journal_in (g.seen old journal2_name) ≡ Err (UnknownVersion version)
+  pub bad : g.tells old ≡ true → (at : ℕ) → found ≡ Err (BadJournal at)
+      → journal_in (g.seen old journal2_name) ≡ Err (BadJournal at)
+  pub unknown : g.tells old ≡ true → (version : ℕ) → found ≡ Err (UnknownVersion version)
+      → journal_in (g.seen old journal2_name) ≡ Err (UnknownVersion version)
   pub leaves : IsRetired (g.may_leave old) → WhereCalm g old (OpensCalm g old new found)
   pub former : g.tells old ≡ true → (c : List ℕ) → g.may_leave new journal_name c → g.may_leave old journal_name c
   pub none : g.tells old ≡ true → journal_in (g.seen old journal2_name) ≡ Ok [] → OnlyReads g old new
   pub kept : g.tells old ≡ true → IfErr found (λ fault. fault ≢ DiskFault → OnlyReads g old new)
-  pub stays : g.tells old ≡ true → (fault : JournalFault) → journal_in (g.seen old journal2_name) ≡ Err fault → OnlyReads g old new
+  pub stays : g.tells old ≡ true → (fault : JournalFault) → journal_in (g.seen old journal2_name) ≡ Err fault
+      → OnlyReads g old new
   pub goes : GoesOn g old new
   pub cause : found ≡ Err DiskFault → HasRisen (g.faults old) (g.faults new)
 

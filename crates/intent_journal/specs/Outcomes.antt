@@ -37,7 +37,8 @@ IsBroken image = BreaksFormer (image journal_name) ⊎ BreaksJournal (image jour
 
 -- these are files that an image stands for: its own, with the entries that its journals read as
 abbrev pub HasOutcome : Image → Image → Type 0
-HasOutcome image files = (entries : List (List FileText)) × ReadsAs image entries × (SameFiles files (with_entries image entries))
+HasOutcome image files =
+    (entries : List (List FileText)) × ReadsAs image entries × (SameFiles files (with_entries image entries))
 
 -- the image isn't broken, and all files that it stands for have this property
 pub record HasOnly (Property : Image → Type 0) (image : Image) : Type 0 where

@@ -22,7 +22,8 @@ pub record IsSame {D : Type 0} (old new : JournalValue D) : Type 0 where
 
 -- on a disk that tells, where the header is open for good and names these files
 abbrev pub WhereHeaded : {D : Type 0} → Ghosts D → JournalValue D → (List (List ℕ) → Image → Type 0) → Type 0
-WhereHeaded g journal P = g.tells journal.disk ≡ true → (names : List (List ℕ)) (before : Image) → journal.headed ≡ true → journal.start ≡ front_size names → P names before
+WhereHeaded g journal P =
+    g.tells journal.disk ≡ true → (names : List (List ℕ)) (before : Image) → journal.headed ≡ true → journal.start ≡ front_size names → P names before
 
 -- the gate behind the list was in doubt, and is closed
 abbrev pub SettlesList : {D : Type 0} → Ghosts D → JournalValue D → JournalValue D → Result Unit Failed → Type 0

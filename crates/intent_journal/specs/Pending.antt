@@ -51,4 +51,5 @@ first_above after (content ∷ contents) = if is_above after content.0 then Some
 
 -- the first n files that a list names have their contents
 abbrev pub HasBroughtTo : (List ℕ → List ℕ → Type 0) → List (List FileText) → ℕ → Type 0
-HasBroughtTo leaves list n = (i : ℕ) (content : Content) → i < n → slice_get (pending_in list) i ≡ Some content → Only content.1 (leaves content.0)
+HasBroughtTo leaves list n =
+    (i : ℕ) (content : Content) → i < n → slice_get (pending_in list) i ≡ Some content → Only content.1 (leaves content.0)

@@ -48,7 +48,8 @@ pub record Recovers {D : Type 0} (g : Ghosts D) (old new : D) (result : Result U
 
 -- what a crash may leave while the former journal is retired
 abbrev pub IsRetiring : Image → (List ℕ → List ℕ → Type 0) → List (List FileText) → Image → Type 0
-IsRetiring seen leaves list image = IsRecovering seen leaves journal_name 0 list image ⊎ IsBehindBringing leaves journal_name list IsShut image
+IsRetiring seen leaves list image =
+    IsRecovering seen leaves journal_name 0 list image ⊎ IsBehindBringing leaves journal_name list IsShut image
 
 -- open entries of the former journal came into their files, and it was cut to its closed gate
 pub record Retires {D : Type 0} (g : Ghosts D) (old new : D) (result : Result Unit Failed) (list : List (List FileText)) : Type 0 where

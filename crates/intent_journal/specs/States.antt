@@ -23,7 +23,8 @@ KeepsUnlisted leaves before entries =
 
 -- the former journal is too short for an entry, or its gate is closed, for good
 abbrev pub IsRetired : (List ℕ → List ℕ → Type 0) → Type 0
-IsRetired leaves = ((c : List ℕ) → leaves journal_name c → length c < head_size) ⊎ ((c : List ℕ) → leaves journal_name c → gate c ≡ 0)
+IsRetired leaves =
+    ((c : List ℕ) → leaves journal_name c → length c < head_size) ⊎ ((c : List ℕ) → leaves journal_name c → gate c ≡ 0)
 
 -- the journal begins with a head that names these files and with the bytes of a list, and what stands behind them is so
 abbrev pub BeginsWith : List (List ℕ) → List (List FileText) → (List ℕ → Type 0) → List ℕ → Type 0
@@ -33,7 +34,8 @@ BeginsWith names entries Behind c = (rest : List ℕ) × (c ≡ front names ++ (
 -- still, or these with the entry in doubt
 pub record RestGives (names : List (List ℕ)) (number place : ℕ) (files : Image) (doubt : Option (List FileText)) (rest : List ℕ) : Type 0 where
   pub not_broken : ¬ BreaksFrom (listed names) number place rest
-  pub outcomes : (more : List (List FileText)) → ReadsFrom (listed names) number place rest more → IsEither files doubt (with_entries files more)
+  pub outcomes : (more : List (List FileText)) → ReadsFrom (listed names) number place rest more
+      → IsEither files doubt (with_entries files more)
 
 -- the same of a whole journal, whatever its head is
 pub record JournalGives (files : Image) (doubt : Option (List FileText)) (c : List ℕ) : Type 0 where
@@ -152,7 +154,8 @@ pub record IsCalm (seen : Image) (leaves : List ℕ → List ℕ → Type 0) (fi
   pub former : IsOneGate (HasGate plain (seen journal_name)) head_size (seen journal_name) (leaves journal_name)
   pub journal : IsOneGate (HasJournalGate (seen journal2_name)) head_start (seen journal2_name) (leaves journal2_name)
   pub not_broken : (image : Image) → IsOwnImage leaves image → ¬ IsBroken image
-  pub outcomes : (image outcome : Image) → IsImage leaves image → HasOutcome image outcome → IsEither files doubt outcome
+  pub outcomes : (image outcome : Image) → IsImage leaves image → HasOutcome image outcome
+      → IsEither files doubt outcome
 
 -- ---- a journal at rest
 

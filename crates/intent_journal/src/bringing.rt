@@ -22,7 +22,8 @@ pub fn bring_in<D: Disk>(disk: &mut D, list: &[List<FileText>]) -> Result<(), Fa
     requires { AllByRecursion IsEntry list.now }
     ensures brought { D.tells disk.old ≡ true → OnOk result (HasBrought (D.may_leave disk.new) (as_one list.now)) }
     ensures brings { D.tells disk.old ≡ true → Brings D.Disk disk.old disk.new result (as_one list.now) [] }
-    ensures passes { D.tells disk.old ≡ true → (names : List (List ℕ)) (before : Image) → IsListed (D.may_leave disk.old) names before list.now
+    ensures passes { D.tells disk.old ≡ true → (names : List (List ℕ)) (before : Image)
+        → IsListed (D.may_leave disk.old) names before list.now
         → Passes D.Disk disk.old disk.new result (λ leaves. IsListed leaves names before list.now) (λ leaves. IsListed leaves names before list.now)
         (IsOutcome (with_entries before list.now)) }
     ensures goes { GoesOn D.Disk disk.old disk.new }
@@ -68,7 +69,8 @@ fn put_unless<D: Disk>(
     text: &FileText,
     later: &[List<FileText>],
 ) -> Result<(), Failed>
-    ensures brings { D.tells disk.old ≡ true → Brings D.Disk disk.old disk.new result (text.now ∷ []) (as_one later.now) }
+    ensures brings { D.tells disk.old ≡ true
+        → Brings D.Disk disk.old disk.new result (text.now ∷ []) (as_one later.now) }
     ensures goes { GoesOn D.Disk disk.old disk.new }
     ensures cause { HasCause (D.faults disk.old) (D.faults disk.new) result }
 {

@@ -120,7 +120,8 @@ impl<D: Disk> Journal<D> {
     /// Whether the list has fewer than the most entries, and one more with a body of this size ends within the limit.
     pub fn fits(&self, body: usize) -> bool
         ensures exact { result ≡ has_room self.now.list body }
-        ensures fits { (entry : List Item) → IsEntry entry → body ≡ length (spelled_on entry) → result ≡ true → IsList (self.now.list ++ entry ∷ []) }
+        ensures fits { (entry : List Item) → IsEntry entry → body ≡ length (spelled_on entry) → result ≡ true
+            → IsList (self.now.list ++ entry ∷ []) }
     {
         is_room(self.list.len(), self.place - self.start, body)
     }
@@ -184,7 +185,8 @@ impl<D: Disk> Journal<D> {
         requires headed { self.old.headed ≡ true }
         requires sure { self.old.in_doubt ≡ false }
         requires fits { IsList (self.old.list ++ files ∷ []) }
-        requires body { D.tells self.old.disk ≡ true → HasBodyBehind (D.may_leave self.old.disk) self.old.start self.old.list files }
+        requires body { D.tells self.old.disk ≡ true
+            → HasBodyBehind (D.may_leave self.old.disk) self.old.start self.old.list files }
         ensures ok { OnOk result ((self.new.in_doubt ≡ false) × (self.new.list ≡ self.old.list ++ files ∷ [])) }
         ensures err { OnErr result ((self.new.in_doubt ≡ true) × (self.new.list ≡ self.old.list)) }
         ensures head { (self.new.headed ≡ true) × (self.new.start ≡ self.old.start) }
@@ -213,9 +215,11 @@ impl<D: Disk> Journal<D> {
         requires within { i < length (pending_in self.old.list) }
         ensures same { IsSame self.old self.new × (self.new.in_doubt ≡ false) }
         ensures step { IsStep D.Disk self.old self.new result }
-        ensures puts { D.tells self.old.disk ≡ true → (content : Content) → slice_get (pending_in self.old.list) i ≡ Some content
+        ensures puts { D.tells self.old.disk ≡ true → (content : Content)
+            → slice_get (pending_in self.old.list) i ≡ Some content
             → PutsFile D.Disk self.old.disk self.new.disk result (record { file = content.0; bytes = content.1 }) }
-        ensures applied { D.tells self.old.disk ≡ true → HasBroughtTo (D.may_leave self.old.disk) self.old.list i → OnOk result (HasBroughtTo (D.may_leave self.new.disk) self.old.list (i + 1)) }
+        ensures applied { D.tells self.old.disk ≡ true → HasBroughtTo (D.may_leave self.old.disk) self.old.list i
+            → OnOk result (HasBroughtTo (D.may_leave self.new.disk) self.old.list (i + 1)) }
         ensures passes { StaysListed D.Disk self.old self.new result }
     {
         put_pending(&mut self.disk, self.list.as_slice(), i)
@@ -226,7 +230,8 @@ impl<D: Disk> Journal<D> {
     pub fn close_gate(&mut self) -> Result<(), Failed>
         requires headed { self.old.headed ≡ true }
         requires sure { self.old.in_doubt ≡ false }
-        requires applied { D.tells self.old.disk ≡ true → HasBroughtTo (D.may_leave self.old.disk) self.old.list (length (pending_in self.old.list)) }
+        requires applied { D.tells self.old.disk ≡ true
+            → HasBroughtTo (D.may_leave self.old.disk) self.old.list (length (pending_in self.old.list)) }
         ensures ok { OnOk result (self.new.in_doubt ≡ false) }
         ensures err { OnErr result (self.new.in_doubt ≡ true) }
         ensures head { (self.new.headed ≡ true) × (self.new.start ≡ self.old.start) }

@@ -25,33 +25,43 @@ use kdb_outside::Disk;
 /// What this program wrote is read as it is: of a journal whose gates are open for good up to a closed one, the open
 /// entries are those of the list.
 pub fn a_list_is_read_again<D: Disk>(disk: &D)
-    ensures { D.tells disk.now ≡ true → (names : List (List ℕ)) (before : Image) (entries : List (List Item)) → IsListed (D.may_leave disk.now) names before entries
+    ensures { D.tells disk.now ≡ true → (names : List (List ℕ)) (before : Image) (entries : List (List Item))
+        → IsListed (D.may_leave disk.now) names before entries
         → journal_in (D.seen disk.now journal2_name) ≡ Ok entries }
 {}
 
 /// An image without a head of `journal2` reads, breaks and stands for the same files as the list of `journal` alone.
 pub fn a_former_image_reads_alike()
-    ensures reads { (image : Image) (entries : List (List Item)) → length (image journal2_name) < head_start → (ReadsAs image entries ↔ ReadsFormer (image journal_name) entries) }
-    ensures broken { (image : Image) → length (image journal2_name) < head_start → (IsBroken image ↔ BreaksFormer (image journal_name)) }
+    ensures reads { (image : Image) (entries : List (List Item)) → length (image journal2_name) < head_start
+        → (ReadsAs image entries ↔ ReadsFormer (image journal_name) entries) }
+    ensures broken { (image : Image) → length (image journal2_name) < head_start
+        → (IsBroken image ↔ BreaksFormer (image journal_name)) }
     ensures outcomes { (image files : Image) → length (image journal2_name) < head_start
         → (HasOutcome image files ↔ ((entries : List (List Item)) × ReadsFormer (image journal_name) entries × SameFiles files (with_entries image entries))) }
-    ensures opening { (image : Image) → length (image journal2_name) < head_start → found_in image ≡ former_in (image journal_name) }
+    ensures opening { (image : Image) → length (image journal2_name) < head_start
+        → found_in image ≡ former_in (image journal_name) }
 {}
 
 /// A journal of one entry that no gate follows, or of none, as an earlier program wrote it, is to a list what it was to
 /// that program: it has the same readings, is broken alike, and its image stands for the same files.
 pub fn the_old_form_reads_alike()
-    ensures reads { (image : Image) (entries : List (List Item)) → length (image journal2_name) < head_start → IsOldForm (image journal_name) → (ReadsAs image entries ↔ ReadAs image entries) }
-    ensures broken { (image : Image) → length (image journal2_name) < head_start → IsOldForm (image journal_name) → (IsBroken image ↔ WasBroken image) }
-    ensures outcomes { (image files : Image) → length (image journal2_name) < head_start → IsOldForm (image journal_name) → (HasOutcome image files ↔ HadOutcome image files) }
-    ensures opening { (image : Image) → length (image journal2_name) < head_start → IsOldForm (image journal_name) → found_in image ≡ with_fault (opened_reading image) }
+    ensures reads { (image : Image) (entries : List (List Item)) → length (image journal2_name) < head_start
+        → IsOldForm (image journal_name) → (ReadsAs image entries ↔ ReadAs image entries) }
+    ensures broken { (image : Image) → length (image journal2_name) < head_start → IsOldForm (image journal_name)
+        → (IsBroken image ↔ WasBroken image) }
+    ensures outcomes { (image files : Image) → length (image journal2_name) < head_start
+        → IsOldForm (image journal_name) → (HasOutcome image files ↔ HadOutcome image files) }
+    ensures opening { (image : Image) → length (image journal2_name) < head_start → IsOldForm (image journal_name)
+        → found_in image ≡ with_fault (opened_reading image) }
 {}
 
 /// A disk on which a crash leaves only such journals, and no head of `journal2`, is calm where it was calm to that
 /// program.
 pub fn the_old_form_is_calm_alike<D: Disk>(disk: &D)
-    ensures { D.tells disk.now ≡ true → ((c : List ℕ) → D.may_leave disk.now journal_name c → IsOldForm c) → ((c : List ℕ) → D.may_leave disk.now journal2_name c → length c < head_start)
-        → (files : Image) (doubt : Option (List Item)) → (IsCalm (D.seen disk.now) (D.may_leave disk.now) files doubt ↔ WasCalm (D.seen disk.now) (D.may_leave disk.now) files doubt) }
+    ensures { D.tells disk.now ≡ true → ((c : List ℕ) → D.may_leave disk.now journal_name c → IsOldForm c)
+        → ((c : List ℕ) → D.may_leave disk.now journal2_name c → length c < head_start)
+        → (files : Image) (doubt : Option (List Item))
+        → (IsCalm (D.seen disk.now) (D.may_leave disk.now) files doubt ↔ WasCalm (D.seen disk.now) (D.may_leave disk.now) files doubt) }
 {}
 
 /// The open entries of a calm disk can be read, and its files with them are those that it has, or those with the entry
@@ -65,13 +75,18 @@ pub fn a_calm_disk_can_be_opened<D: Disk>(disk: &D)
 /// for its version. On a calm disk it is opened with the files that the opening leaves, which are those of the disk, or
 /// those with the entry in doubt.
 pub fn an_opening_tells_what_it_read<D: Disk>(disk: &D)
-    ensures fresh { (result : Result (JournalValue D) (Refused D)) → OpensJournal D.Disk disk.now result → IfOk result IsFresh }
-    ensures good { D.tells disk.now ≡ true → (result : Result (JournalValue D) (Refused D)) → OpensJournal D.Disk disk.now result
+    ensures fresh { (result : Result (JournalValue D) (Refused D)) → OpensJournal D.Disk disk.now result
+        → IfOk result IsFresh }
+    ensures good { D.tells disk.now ≡ true → (result : Result (JournalValue D) (Refused D))
+        → OpensJournal D.Disk disk.now result
         → OnOk result (found_in (D.seen disk.now) ≡ Ok (open_list (D.seen disk.now))) }
-    ensures bad { D.tells disk.now ≡ true → (result : Result (JournalValue D) (Refused D)) → OpensJournal D.Disk disk.now result
+    ensures bad { D.tells disk.now ≡ true → (result : Result (JournalValue D) (Refused D))
+        → OpensJournal D.Disk disk.now result
         → (at : ℕ) → fault_of result ≡ Some (JournalFault.BadJournal at) → bad_place (D.seen disk.now) ≡ Some at }
-    ensures unknown { D.tells disk.now ≡ true → (result : Result (JournalValue D) (Refused D)) → OpensJournal D.Disk disk.now result
-        → (version : ℕ) → fault_of result ≡ Some (JournalFault.UnknownVersion version) → unknown_version (D.seen disk.now) ≡ Some version }
+    ensures unknown { D.tells disk.now ≡ true → (result : Result (JournalValue D) (Refused D))
+        → OpensJournal D.Disk disk.now result
+        → (version : ℕ) → fault_of result ≡ Some (JournalFault.UnknownVersion version)
+        → unknown_version (D.seen disk.now) ≡ Some version }
     ensures either { WhereCalm D.Disk disk.now (λ files doubt. IsEither files doubt (opened_files (D.seen disk.now))) }
     ensures opened { WhereCalm D.Disk disk.now (λ files doubt. (result : Result (JournalValue D) (Refused D)) → OpensJournal D.Disk disk.now result → IfOk result (HoldsOpened D.Disk disk.now)) }
 {}

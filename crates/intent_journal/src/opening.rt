@@ -66,7 +66,8 @@ fn recover_any<D: Disk>(
     requires entries { AllByRecursion IsEntry list.now }
     requires there { D.tells disk.old ≡ true → list.now ≢ [] → at ≤ length (D.seen disk.old journal.now) }
     ensures none { list.now ≡ [] → (disk.new ≡ disk.old) × IsOk result }
-    ensures recovers { D.tells disk.old ≡ true → list.now ≢ [] → Recovers D.Disk disk.old disk.new result journal2_name at list.now }
+    ensures recovers { D.tells disk.old ≡ true → list.now ≢ []
+        → Recovers D.Disk disk.old disk.new result journal2_name at list.now }
     ensures goes { GoesOn D.Disk disk.old disk.new }
     ensures cause { HasCause (D.faults disk.old) (D.faults disk.new) result }
 {

@@ -62,7 +62,8 @@ fn next_in<'a>(list: &'a [List<FileText>], found: Option<&'a FileText>) -> Optio
 
 /// The file of the least name above this one, if it is given.
 fn least_in<'a>(list: &'a [List<FileText>], after: Option<&FileName>) -> Option<&'a FileText>
-    ensures { option_map (λ text. content_of text.now) result ≡ first_above (option_map (λ name. name.now) after.entry) (pending_in list.now) }
+    ensures { option_map (λ text. content_of text.now) result
+        ≡ first_above (option_map (λ name. name.now) after.entry) (pending_in list.now) }
 {
     let mut best = None;
     for entry in list {
@@ -77,7 +78,8 @@ fn least_of<'a>(
     after: Option<&FileName>,
     best: Option<&'a FileText>,
 ) -> Option<&'a FileText>
-    ensures { option_map (λ text. content_of text.now) result ≡ least (option_map (λ name. name.now) after.entry) texts.now (option_map (λ text. content_of text.now) best.entry) }
+    ensures { option_map (λ text. content_of text.now) result
+        ≡ least (option_map (λ name. name.now) after.entry) texts.now (option_map (λ text. content_of text.now) best.entry) }
 {
     let mut best = best;
     for i in 0..texts.len() {
@@ -91,7 +93,8 @@ fn better<'a>(
     after: Option<&FileName>,
     best: Option<&'a FileText>,
 ) -> Option<&'a FileText>
-    ensures { option_map (λ text. content_of text.now) result ≡ better_of (option_map (λ name. name.now) after.entry) (content_of text.now) (option_map (λ text. content_of text.now) best.entry) }
+    ensures { option_map (λ text. content_of text.now) result
+        ≡ better_of (option_map (λ name. name.now) after.entry) (content_of text.now) (option_map (λ text. content_of text.now) best.entry) }
 {
     if is_above(&text.file, after) && is_no_later(&text.file, best) {
         Some(text)
@@ -110,7 +113,8 @@ fn is_above(name: &FileName, after: Option<&FileName>) -> bool
 }
 
 fn is_no_later(name: &FileName, best: Option<&FileText>) -> bool
-    ensures { (bytes : List ℕ) → result ≡ no_later (name.now, bytes) (option_map (λ text. content_of text.now) best.entry) }
+    ensures { (bytes : List ℕ)
+        → result ≡ no_later (name.now, bytes) (option_map (λ text. content_of text.now) best.entry) }
 {
     match best {
         Some(best) => name
@@ -131,8 +135,10 @@ pub(crate) fn put_pending<D: Disk>(
     requires { i < length (pending_in list.now) }
     ensures puts { D.tells disk.old ≡ true → (content : Content) → slice_get (pending_in list.now) i ≡ Some content
         → PutsFile D.Disk disk.old disk.new result (record { file = content.0; bytes = content.1 }) }
-    ensures others { D.tells disk.old ≡ true → (other : List ℕ) → content_in (as_one list.now) other ≡ None → KeepsImagesOf other (D.may_leave disk.old) (D.may_leave disk.new) }
-    ensures time { D.tells disk.old ≡ true → AddsOnly D.Disk disk.old disk.new (KeepsUnnamed (as_one list.now) (D.may_leave disk.old)) }
+    ensures others { D.tells disk.old ≡ true → (other : List ℕ) → content_in (as_one list.now) other ≡ None
+        → KeepsImagesOf other (D.may_leave disk.old) (D.may_leave disk.new) }
+    ensures time { D.tells disk.old ≡ true
+        → AddsOnly D.Disk disk.old disk.new (KeepsUnnamed (as_one list.now) (D.may_leave disk.old)) }
     ensures goes { GoesOn D.Disk disk.old disk.new }
     ensures cause { HasCause (D.faults disk.old) (D.faults disk.new) result }
 {

@@ -26,7 +26,8 @@ pub(crate) fn put_header<D: Disk>(
     requires named { name.now ≡ journal2_name }
     requires there { D.tells disk.old ≡ true → 1 ≤ length (D.seen disk.old name.now) }
     ensures opened { D.tells disk.old ≡ true → OnOk result (HasOpened header.now (D.may_leave disk.new)) }
-    ensures passes { D.tells disk.old ≡ true → (names : List (List ℕ)) (files : Image) → header.now ≡ header_bytes names → IsHeader names → IsBare (D.may_leave disk.old) files
+    ensures passes { D.tells disk.old ≡ true → (names : List (List ℕ)) (files : Image) → header.now ≡ header_bytes names
+        → IsHeader names → IsBare (D.may_leave disk.old) files
         → Passes D.Disk disk.old disk.new result (λ leaves. IsListed leaves names files []) (λ leaves. IsHeadInDoubt leaves files None) (IsOutcome files) }
     ensures goes { GoesOn D.Disk disk.old disk.new }
     ensures cause { HasCause (D.faults disk.old) (D.faults disk.new) result }
@@ -45,7 +46,8 @@ pub(crate) fn put_body<D: Disk>(
 ) -> Result<(), Failed>
     requires limit { at ≤ head_start + longest_header + last_place }
     requires there { D.tells disk.old ≡ true → at + 1 ≤ length (D.seen disk.old name.now) }
-    ensures writes { D.tells disk.old ≡ true → WritesThrough D.Disk disk.old disk.new result name.now (at + 1) encoded.now }
+    ensures writes { D.tells disk.old ≡ true
+        → WritesThrough D.Disk disk.old disk.new result name.now (at + 1) encoded.now }
     ensures goes { GoesOn D.Disk disk.old disk.new }
     ensures cause { HasCause (D.faults disk.old) (D.faults disk.new) result }
 {

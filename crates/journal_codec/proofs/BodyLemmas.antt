@@ -30,9 +30,11 @@ count_takes body x e =
     let taken : TakesCount body b.0.0 b.0.1 = record { parts = byte_takes body b.0 b.1; not_empty = leb-true 1 b.0.0 both.0; not_many = leb-true b.0.0 most_files both.1 } in
     subst (λ (p : ℕ × List ℕ). TakesCount body p.0 p.1) c.1 taken
 
-pub count_again : (count : ℕ) (rest : List ℕ) → 1 ≤ count → count ≤ most_files → count_at (count ∷ rest) ≡ Ok (count, rest)
+pub count_again : (count : ℕ) (rest : List ℕ) → 1 ≤ count → count ≤ most_files
+    → count_at (count ∷ rest) ≡ Ok (count, rest)
 unfolding count_at
-count_again count rest some few = rw (and_from (leb 1 count) (leb count most_files) (le-leb 1 count some) (le-leb count most_files few)) refl
+count_again count rest some few =
+    rw (and_from (leb 1 count) (leb count most_files) (le-leb 1 count some) (le-leb count most_files few)) refl
 
 -- what is read behind the count and behind the items
 abbrev pub at_end : {A : Type 0} → List A × List ℕ → Result (List A) ℕ
@@ -42,7 +44,8 @@ abbrev pub after_count : {A : Type 0} → ItemsReader A → ℕ × List ℕ → 
 after_count items_of count = items_of count.0 [] count.1 >>= at_end
 
 -- nothing stands behind the items
-ended : {A : Type 0} (b : Bool) (items y : List A) (left : ℕ) → cond b (Ok items) (Err left) ≡ Ok y → (b ≡ true) × (items ≡ y)
+ended : {A : Type 0} (b : Bool) (items y : List A) (left : ℕ) → cond b (Ok items) (Err left) ≡ Ok y
+    → (b ≡ true) × (items ≡ y)
 ended true items y left e = (refl, cc)
 ended false items y left e = absurd cc
 
@@ -53,23 +56,33 @@ pub record TakesAll {A : Type 0} (items_of : ItemsReader A) (bytes : List ℕ) (
   pub first : count_at bytes ≡ Ok (count, behind)
   pub others : items_of count [] behind ≡ Ok (items, [])
 
-pub counted_takes : {A : Type 0} (items_of : ItemsReader A) (bytes : List ℕ) (items : List A) → counted items_of bytes ≡ Ok items → TakesAll items_of bytes items
+pub counted_takes : {A : Type 0} (items_of : ItemsReader A) (bytes : List ℕ) (items : List A)
+    → counted items_of bytes ≡ Ok items → TakesAll items_of bytes items
 counted_takes {A} items_of bytes items e =
     let c = bind_ok (count_at bytes) (after_count items_of) items e in
     let f = bind_ok (items_of c.0.0 [] c.0.1) at_end items c.2 in
     let nothing = ended (eqb (length f.0.1) 0) f.0.0 items (length f.0.1) f.2 in
     let rest : f.0.1 ≡ [] = nil_from_length f.0.1 (eqb-true (length f.0.1) 0 nothing.0) in
-    record { count = c.0.0; behind = c.0.1; first = c.1; others = f.1 ∙ ap₂ (λ (xs : List A) (bs : List ℕ). Ok (xs, bs)) nothing.1 rest }
+    record {
+      count = c.0.0;
+      behind = c.0.1;
+      first = c.1;
+      others = f.1 ∙ ap₂ (λ (xs : List A) (bs : List ℕ). Ok (xs, bs)) nothing.1 rest;
+    }
 
-pub counted_again : {A : Type 0} (items_of : ItemsReader A) (bytes : List ℕ) (items : List A) (count : ℕ) (behind : List ℕ)
-    → count_at bytes ≡ Ok (count, behind) → items_of count [] behind ≡ Ok (items, []) → counted items_of bytes ≡ Ok items
+pub counted_again : {A : Type 0} (items_of : ItemsReader A) (bytes : List ℕ) (items : List A) (count : ℕ)
+    (behind : List ℕ)
+    → count_at bytes ≡ Ok (count, behind) → items_of count [] behind ≡ Ok (items, [])
+    → counted items_of bytes ≡ Ok items
 counted_again items_of bytes items count behind first others =
     bind_is (count_at bytes) (after_count items_of) (count, behind) (Ok items) first
     (bind_is (items_of count [] behind) at_end (items, []) (Ok items) others refl)
 
-pub spelling_is : {A : Type 0} (spelled_item : A → List ℕ) (bytes behind : List ℕ) (count : ℕ) (items : List A) → bytes ≡ count ∷ behind → behind ≡ flat_map spelled_item items ++ [] → length items ≡ count
+pub spelling_is : {A : Type 0} (spelled_item : A → List ℕ) (bytes behind : List ℕ) (count : ℕ) (items : List A)
+    → bytes ≡ count ∷ behind → behind ≡ flat_map spelled_item items ++ [] → length items ≡ count
     → length items ∷ flat_map spelled_item items ≡ bytes
-spelling_is spelled_item bytes behind count items e₁ e₂ l = rw (e₁, e₂, append-nil (flat_map spelled_item items), l) refl
+spelling_is spelled_item bytes behind count items e₁ e₂ l =
+    rw (e₁, e₂, append-nil (flat_map spelled_item items), l) refl
 
 -- a body that was read is its entry's spelling
 pub record IsRead (body : List ℕ) (files : List FileText) : Type 0 where
@@ -94,7 +107,8 @@ all_takes body files e =
           spelling_is spelled_file body all.behind all.count files count.parts (taken.parts behind) taken.number;
     }
 
-pub some_names : (files : List FileText) → AllByRecursion IsEntryFile files → AllByRecursion (λ name. 1 ≤ length name) (names_of files)
+pub some_names : (files : List FileText) → AllByRecursion IsEntryFile files
+    → AllByRecursion (λ name. 1 ≤ length name) (names_of files)
 some_names [] fits = tt
 some_names (f ∷ files) fits = (fits.0.is_name.not_empty, some_names files fits.1)
 
@@ -108,7 +122,8 @@ all_again files entry =
     ap (files_at is_next_name (length files) []) (sym (append-nil body)) ∙ files_again [] files [] rises each in
     counted_again (files_at is_next_name) (length files ∷ body) files (length files) body (count_again (length files) body entry.not_empty entry.not_many) read
 
-pub reads_by : (size : ℕ) (read : Result (List FileText) ℕ) (files : List FileText) → reading_of size read ≡ Reads files → read ≡ Ok files
+pub reads_by : (size : ℕ) (read : Result (List FileText) ℕ) (files : List FileText) → reading_of size read ≡ Reads files
+    → read ≡ Ok files
 reads_by size (Ok found) files e = cc
 reads_by size (Err left) files e = absurd cc
 
@@ -124,8 +139,11 @@ same_files : (files others : List FileText) → Reads files ≡ Reads others →
 same_files files others e = cc
 
 -- no two entries share a spelling
-pub spelled_apart : (files others : List FileText) → IsEntry files → IsEntry others → spelled files ≡ spelled others → files ≡ others
-spelled_apart files others one other e = same_files files others (sym (is_read_again files one) ∙ ap read_body e ∙ is_read_again others other)
+pub spelled_apart : (files others : List FileText) → IsEntry files → IsEntry others → spelled files ≡ spelled others
+    → files ≡ others
+spelled_apart files others one other e =
+    same_files files others (sym (is_read_again files one) ∙ ap read_body e ∙ is_read_again others other)
 
-pub spelling_of_read : (body : List ℕ) (files : List FileText) → All (λ b. b < 256) body → read_body body ≡ Reads files → spelled files ≡ body
+pub spelling_of_read : (body : List ℕ) (files : List FileText) → All (λ b. b < 256) body → read_body body ≡ Reads files
+    → spelled files ≡ body
 spelling_of_read body files all e = (is_read body files e).spelling (IsBytes-from_All body all)

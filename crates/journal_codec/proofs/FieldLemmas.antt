@@ -29,12 +29,14 @@ pub IsBytes-behind : (front rest : List ℕ) → IsBytes (front ++ rest) → IsB
 IsBytes-behind front rest h i = rw (← get_or-append-add front rest i 0) (h (length front + i))
 
 -- the value of a step that didn't fail
-pub bind_ok : {A B : Type 0} (r : Result A ℕ) (f : A → Result B ℕ) (y : B) → (r >>= f) ≡ Ok y → (x : A) × (r ≡ Ok x) × (f x ≡ Ok y)
+pub bind_ok : {A B : Type 0} (r : Result A ℕ) (f : A → Result B ℕ) (y : B) → (r >>= f) ≡ Ok y
+    → (x : A) × (r ≡ Ok x) × (f x ≡ Ok y)
 bind_ok (Ok x) f y e = (x, refl, e)
 bind_ok (Err left) f y e = absurd cc
 
 -- a step that succeeds hands its value on
-pub bind_is : {A B : Type 0} (r : Result A ℕ) (f : A → Result B ℕ) (x : A) (y : Result B ℕ) → r ≡ Ok x → f x ≡ y → (r >>= f) ≡ y
+pub bind_is : {A B : Type 0} (r : Result A ℕ) (f : A → Result B ℕ) (x : A) (y : Result B ℕ) → r ≡ Ok x → f x ≡ y
+    → (r >>= f) ≡ y
 bind_is r f x y e d = rw e d
 
 abbrev done : {A : Type 0} → A → Result A ℕ
@@ -44,7 +46,8 @@ pub ok_is : {A : Type 0} (x y : A) → done x ≡ done y → x ≡ y
 ok_is x y e = cc
 
 -- a field that was read keeps its rule
-pub checked_ok : {A : Type 0} (is_good : Bool) (bytes : List ℕ) (field x : A × List ℕ) → checked is_good bytes field ≡ Ok x → (is_good ≡ true) × (field ≡ x)
+pub checked_ok : {A : Type 0} (is_good : Bool) (bytes : List ℕ) (field x : A × List ℕ)
+    → checked is_good bytes field ≡ Ok x → (is_good ≡ true) × (field ≡ x)
 checked_ok true bytes field x e = (refl, ok_is field x e)
 checked_ok false bytes field x e = absurd cc
 
@@ -58,20 +61,24 @@ from_front : (front bytes : List ℕ) → front ≡ take 4 bytes → bytes ≡ f
 from_front front bytes e = rw e (sym (take-append-drop 4 bytes))
 
 -- the four bytes of a length
-pub number_takes : (bytes : List ℕ) (x : ℕ × List ℕ) → IsBytes bytes → number_at bytes ≡ Ok x → bytes ≡ length_bytes x.0 ++ x.1
+pub number_takes : (bytes : List ℕ) (x : ℕ × List ℕ) → IsBytes bytes → number_at bytes ≡ Ok x
+    → bytes ≡ length_bytes x.0 ++ x.1
 number_takes bytes x is_bytes e =
     let c = checked_ok (leb 4 (length bytes)) bytes (number_of (take 4 bytes), drop 4 bytes) x e in
     let long : 4 ≤ length bytes = leb-true 4 (length bytes) c.0 in
     let front : length_bytes (number_of (take 4 bytes)) ≡ take 4 bytes = le_bytes_4 (take 4 bytes) (number_of (take 4 bytes)) (length-take-le 4 bytes long) (IsBytes-take 4 bytes is_bytes) refl in
-    from_front (length_bytes (number_of (take 4 bytes))) bytes front ∙ ap (λ (p : ℕ × List ℕ). length_bytes p.0 ++ p.1) c.1
+    from_front (length_bytes (number_of (take 4 bytes))) bytes front
+    ∙ ap (λ (p : ℕ × List ℕ). length_bytes p.0 ++ p.1) c.1
 
 -- four bytes are read as the number that they are
-number_in_front : (front rest : List ℕ) (n : ℕ) → length front ≡ 4 → number_of front ≡ n → number_at (front ++ rest) ≡ Ok (n, rest)
+number_in_front : (front rest : List ℕ) (n : ℕ) → length front ≡ 4 → number_of front ≡ n
+    → number_at (front ++ rest) ≡ Ok (n, rest)
 number_in_front front rest n four e =
     let long : leb 4 (length (front ++ rest)) ≡ true = le-leb 4 (length (front ++ rest)) (omega (arith, length-append front rest)) in
     let read : number_at (front ++ rest) ≡ Ok (number_of (take 4 (front ++ rest)), drop 4 (front ++ rest)) = rw long refl in
     let cut : number_of (take 4 (front ++ rest)) ≡ n = ap number_of (take_at front rest 4 four) ∙ e in
-    read ∙ ap (λ (m : ℕ). Ok (m, drop 4 (front ++ rest))) cut ∙ ap (λ (left : List ℕ). Ok (n, left)) (drop_at front rest 4 four)
+    read ∙ ap (λ (m : ℕ). Ok (m, drop 4 (front ++ rest))) cut
+    ∙ ap (λ (left : List ℕ). Ok (n, left)) (drop_at front rest 4 four)
 
 pub number_again : (n : ℕ) (rest : List ℕ) → n < 2 ^ 32 → number_at (length_bytes n ++ rest) ≡ Ok (n, rest)
 number_again n rest lt = number_in_front (length_bytes n) rest n refl (from_le_bytes-to_le_bytes_4 n lt)
@@ -82,7 +89,8 @@ pub record TakesBytes (rule : List ℕ → Bool) (size : ℕ) (bytes text rest :
   pub count : length text ≡ size
   pub good : rule text ≡ true
 
-pub bytes_takes : (rule : List ℕ → Bool) (size : ℕ) (bytes : List ℕ) (x : List ℕ × List ℕ) → bytes_at rule size bytes ≡ Ok x → TakesBytes rule size bytes x.0 x.1
+pub bytes_takes : (rule : List ℕ → Bool) (size : ℕ) (bytes : List ℕ) (x : List ℕ × List ℕ)
+    → bytes_at rule size bytes ≡ Ok x → TakesBytes rule size bytes x.0 x.1
 bytes_takes rule size bytes x e =
     let c = checked_ok (leb size (length bytes) && rule (take size bytes)) bytes (take size bytes, drop size bytes) x e in
     let both = and_parts (leb size (length bytes)) (rule (take size bytes)) c.0 in
@@ -93,7 +101,8 @@ bytes_takes rule size bytes x e =
     } in
     subst (λ (p : List ℕ × List ℕ). TakesBytes rule size bytes p.0 p.1) c.1 taken
 
-pub bytes_again : (rule : List ℕ → Bool) (text rest : List ℕ) → rule text ≡ true → bytes_at rule (length text) (text ++ rest) ≡ Ok (text, rest)
+pub bytes_again : (rule : List ℕ → Bool) (text rest : List ℕ) → rule text ≡ true
+    → bytes_at rule (length text) (text ++ rest) ≡ Ok (text, rest)
 bytes_again rule text rest good =
     let long : leb (length text) (length (text ++ rest)) ≡ true = le-leb (length text) (length (text ++ rest)) (omega (arith, length-append text rest)) in
     rw (long, take_at text rest (length text) refl, drop_at text rest (length text) refl, good) refl

@@ -25,12 +25,15 @@ after_name name = number_at name.1 >>= after_length name
 abbrev pub after_size : NameRule → List ℕ → ℕ × List ℕ → Field FileText
 after_size rule previous size = bytes_at (rule previous) size.0 size.1 >>= after_name
 
-regrouped : (head name content rest : List ℕ) → (name ++ (head ++ content)) ++ rest ≡ name ++ (head ++ (content ++ rest))
+regrouped : (head name content rest : List ℕ)
+    → (name ++ (head ++ content)) ++ rest ≡ name ++ (head ++ (content ++ rest))
 regrouped head name content rest = simp append_assoc
 
 -- the fields of a file one behind the other, with head for how a length is spelled
-joined : (head : ℕ → List ℕ) (bytes behind_size name behind_name behind_length content rest : List ℕ) (name_size size : ℕ)
-    → bytes ≡ name_size ∷ behind_size → behind_size ≡ name ++ behind_name → length name ≡ name_size → behind_name ≡ head size ++ behind_length → behind_length ≡ content ++ rest → length content ≡ size
+joined : (head : ℕ → List ℕ) (bytes behind_size name behind_name behind_length content rest : List ℕ)
+    (name_size size : ℕ)
+    → bytes ≡ name_size ∷ behind_size → behind_size ≡ name ++ behind_name → length name ≡ name_size
+    → behind_name ≡ head size ++ behind_length → behind_length ≡ content ++ rest → length content ≡ size
     → bytes ≡ (length name ∷ (name ++ (head (length content) ++ content))) ++ rest
 joined head bytes behind_size name behind_name behind_length content rest name_size size e₁ e₂ l₁ e₃ e₄ l₂ =
     rw (e₁, e₂, e₃, e₄, l₁, l₂) (ap (λ (left : List ℕ). name_size ∷ left) (sym (regrouped (head size) name content rest)))
@@ -39,7 +42,8 @@ joined head bytes behind_size name behind_name behind_length content rest name_s
 abbrev pub TakesFile : List ℕ → List ℕ → FileText → List ℕ → Type 0
 TakesFile = TakesItem (λ f. f.file) spelled_file IsEntryFile
 
-pub file_takes : (previous bytes : List ℕ) (x : FileText × List ℕ) → file_at is_next_name previous bytes ≡ Ok x → TakesFile previous bytes x.0 x.1
+pub file_takes : (previous bytes : List ℕ) (x : FileText × List ℕ) → file_at is_next_name previous bytes ≡ Ok x
+    → TakesFile previous bytes x.0 x.1
 unfolding file_at
 file_takes previous bytes x e =
     let s = bind_ok (byte_at bytes) (after_size is_next_name previous) x e in
@@ -60,7 +64,8 @@ file_takes previous bytes x e =
     } in
     subst (λ (p : FileText × List ℕ). TakesFile previous bytes p.0 p.1) {x = (record { file = n.0.0; bytes = c.0.0 }, c.0.1)} (ok_is (record { file = n.0.0; bytes = c.0.0 }, c.0.1) x c.2) taken
 
-pub file_again : (previous : List ℕ) (f : FileText) (rest : List ℕ) → IsEntryFile f → slice_cmp nat_cmp previous f.file ≡ Less → file_at is_next_name previous (spelled_file f ++ rest) ≡ Ok (f, rest)
+pub file_again : (previous : List ℕ) (f : FileText) (rest : List ℕ) → IsEntryFile f
+    → slice_cmp nat_cmp previous f.file ≡ Less → file_at is_next_name previous (spelled_file f ++ rest) ≡ Ok (f, rest)
 unfolding file_at
 file_again previous f rest fits above =
     let name_rest = length_bytes (length f.bytes) ++ (f.bytes ++ rest) in
@@ -73,16 +78,20 @@ file_again previous f rest fits above =
     bind_is (number_at name_rest) (after_length (f.file, name_rest)) (length f.bytes, f.bytes ++ rest) (Ok (f, rest)) number behind_length in
     let behind_size : after_size is_next_name previous (length f.file, f.file ++ name_rest) ≡ Ok (f, rest) =
     bind_is (bytes_at (is_next_name previous) (length f.file) (f.file ++ name_rest)) after_name (f.file, name_rest) (Ok (f, rest)) (bytes_again (is_next_name previous) f.file name_rest next) behind_name in
-    ap (λ (left : List ℕ). after_size is_next_name previous (length f.file, left)) (regrouped (length_bytes (length f.bytes)) f.file f.bytes rest) ∙ behind_size
+    ap (λ (left : List ℕ). after_size is_next_name previous (length f.file, left)) (regrouped (length_bytes (length f.bytes)) f.file f.bytes rest)
+    ∙ behind_size
 
 -- what some files that were read took from the front of the bytes
 abbrev pub TakesFiles : ℕ → List ℕ → List ℕ → List FileText → List ℕ → Type 0
 TakesFiles = TakesItems (λ f. f.file) spelled_file IsEntryFile
 
-pub files_takes : (count : ℕ) (previous bytes : List ℕ) (x : List FileText × List ℕ) → files_at is_next_name count previous bytes ≡ Ok x → TakesFiles count previous bytes x.0 x.1
+pub files_takes : (count : ℕ) (previous bytes : List ℕ) (x : List FileText × List ℕ)
+    → files_at is_next_name count previous bytes ≡ Ok x → TakesFiles count previous bytes x.0 x.1
 unfolding files_at
 files_takes = items_takes (file_at is_next_name) (λ f. f.file) spelled_file IsEntryFile file_takes
 
-pub files_again : (previous : List ℕ) (files : List FileText) (rest : List ℕ) → Rises previous (names_of files) → AllByRecursion IsEntryFile files → files_at is_next_name (length files) previous (flat_map spelled_file files ++ rest) ≡ Ok (files, rest)
+pub files_again : (previous : List ℕ) (files : List FileText) (rest : List ℕ) → Rises previous (names_of files)
+    → AllByRecursion IsEntryFile files
+    → files_at is_next_name (length files) previous (flat_map spelled_file files ++ rest) ≡ Ok (files, rest)
 unfolding files_at
 files_again = items_again (file_at is_next_name) (λ f. f.file) spelled_file IsEntryFile file_again

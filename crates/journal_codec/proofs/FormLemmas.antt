@@ -40,13 +40,16 @@ uncounted-plain (count ∷ rest) ends = ap (λ (b : Bool). cond b (count - over)
 
 -- both forms are read again
 pub read_again : (entry : List FileText) → IsEntry entry → read_body (uncounted (spelled entry)) ≡ Reads entry
-read_again entry is = ap read_body (uncounted-plain (spelled entry) (followed-spelled entry is)) ∙ is_read_again entry is
+read_again entry is =
+    ap read_body (uncounted-plain (spelled entry) (followed-spelled entry is)) ∙ is_read_again entry is
 
 pub read_again_on : (entry : List FileText) → IsEntry entry → read_body (uncounted (spelled_on entry)) ≡ Reads entry
 read_again_on entry is = ap read_body (uncounted-spelled_on entry is) ∙ is_read_again entry is
 
-pub apart_on : (entry other : List FileText) → IsEntry entry → IsEntry other → spelled_on entry ≡ spelled_on other → entry ≡ other
-apart_on entry other is are same = spelled_apart entry other is are (sym (uncounted-spelled_on entry is) ∙ ap uncounted same ∙ uncounted-spelled_on other are)
+pub apart_on : (entry other : List FileText) → IsEntry entry → IsEntry other → spelled_on entry ≡ spelled_on other
+    → entry ≡ other
+apart_on entry other is are same =
+    spelled_apart entry other is are (sym (uncounted-spelled_on entry is) ∙ ap uncounted same ∙ uncounted-spelled_on other are)
 
 -- a plain count is a byte too
 less_or_same : (b : Bool) (count : ℕ) → cond b (count - over) count ≤ count
@@ -55,7 +58,8 @@ less_or_same false count = omega arith
 
 pub IsBytes-uncounted : (body : List ℕ) → IsBytes body → IsBytes (uncounted body)
 IsBytes-uncounted [] bytes i = bytes i
-IsBytes-uncounted (count ∷ rest) bytes zero = let less = less_or_same (is_over count) count in let byte = bytes 0 in omega arith
+IsBytes-uncounted (count ∷ rest) bytes zero =
+    let less = less_or_same (is_over count) count in let byte = bytes 0 in omega arith
 IsBytes-uncounted (count ∷ rest) bytes (suc i) = bytes (suc i)
 
 -- what was read is spelled by the body, in the form that its count tells
@@ -64,17 +68,21 @@ over_again count is =
     let past : over < count = ltb-true over count is in
     ap (λ (b : Bool). over + cond b (count - over) count) is ∙ omega arith
 
-pub spelled_so : (body : List ℕ) (files : List FileText) → followed body ≡ true → spelled files ≡ uncounted body → spelled_on files ≡ body
+pub spelled_so : (body : List ℕ) (files : List FileText) → followed body ≡ true → spelled files ≡ uncounted body
+    → spelled_on files ≡ body
 spelled_so [] files goes_on is = absurd (cc)
 spelled_so (count ∷ rest) files goes_on is =
     let number : length files ≡ number_in count = cc in
     let behind : flat_map spelled_file files ≡ rest = cc in
     ap₂ (λ (n : ℕ) (bytes : List ℕ). n ∷ bytes) (ap (λ (n : ℕ). over + n) number ∙ over_again count goes_on) behind
 
-pub spelling_plain : (body : List ℕ) (files : List FileText) → All (λ b. b < 256) body → followed body ≡ false → read_body (uncounted body) ≡ Reads files → spelled files ≡ body
+pub spelling_plain : (body : List ℕ) (files : List FileText) → All (λ b. b < 256) body → followed body ≡ false
+    → read_body (uncounted body) ≡ Reads files → spelled files ≡ body
 spelling_plain body files bytes ends read =
-    (is_read (uncounted body) files read).spelling (IsBytes-uncounted body (IsBytes-from_All body bytes)) ∙ uncounted-plain body ends
+    (is_read (uncounted body) files read).spelling (IsBytes-uncounted body (IsBytes-from_All body bytes))
+    ∙ uncounted-plain body ends
 
-pub spelling_on : (body : List ℕ) (files : List FileText) → All (λ b. b < 256) body → followed body ≡ true → read_body (uncounted body) ≡ Reads files → spelled_on files ≡ body
+pub spelling_on : (body : List ℕ) (files : List FileText) → All (λ b. b < 256) body → followed body ≡ true
+    → read_body (uncounted body) ≡ Reads files → spelled_on files ≡ body
 spelling_on body files bytes goes_on read =
     spelled_so body files goes_on ((is_read (uncounted body) files read).spelling (IsBytes-uncounted body (IsBytes-from_All body bytes)))

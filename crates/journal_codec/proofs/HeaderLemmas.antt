@@ -23,7 +23,8 @@ TakesNames = TakesItems (λ name. name) sized_name IsHeaderName
 abbrev after_size : List ℕ → ℕ × List ℕ → Field (List ℕ)
 after_size previous size = bytes_at (is_next_name previous) size.0 size.1
 
-name_takes : (previous bytes : List ℕ) (x : List ℕ × List ℕ) → name_at previous bytes ≡ Ok x → TakesName previous bytes x.0 x.1
+name_takes : (previous bytes : List ℕ) (x : List ℕ × List ℕ) → name_at previous bytes ≡ Ok x
+    → TakesName previous bytes x.0 x.1
 unfolding name_at
 name_takes previous bytes x e =
     let s = bind_ok (byte_at bytes) (after_size previous) x e in
@@ -35,12 +36,14 @@ name_takes previous bytes x e =
       parts = λ is_bytes. byte_takes bytes s.0 s.1 ∙ ap₂ (λ (n : ℕ) (behind : List ℕ). n ∷ behind) (sym name.count) name.parts;
     }
 
-name_again : (previous name rest : List ℕ) → IsHeaderName name → slice_cmp nat_cmp previous name ≡ Less → name_at previous (sized_name name ++ rest) ≡ Ok (name, rest)
+name_again : (previous name rest : List ℕ) → IsHeaderName name → slice_cmp nat_cmp previous name ≡ Less
+    → name_at previous (sized_name name ++ rest) ≡ Ok (name, rest)
 unfolding name_at
 name_again previous name rest fits above =
     bytes_again (is_next_name previous) name rest (next_name_from previous name (record { is_name = fits.is_name; not_journal = fits.not_journal; above = above }))
 
-names_takes : (count : ℕ) (previous bytes : List ℕ) (x : List (List ℕ) × List ℕ) → names_at count previous bytes ≡ Ok x → TakesNames count previous bytes x.0 x.1
+names_takes : (count : ℕ) (previous bytes : List ℕ) (x : List (List ℕ) × List ℕ) → names_at count previous bytes ≡ Ok x
+    → TakesNames count previous bytes x.0 x.1
 unfolding names_at
 names_takes = items_takes name_at (λ name. name) sized_name IsHeaderName name_takes
 
@@ -71,7 +74,8 @@ names_take header names e =
           spelling_is sized_name header all.behind all.count names count.parts (taken.parts behind) taken.number;
     }
 
-some_letters : (names : List (List ℕ)) → AllByRecursion IsHeaderName names → AllByRecursion (λ name. 1 ≤ length name) names
+some_letters : (names : List (List ℕ)) → AllByRecursion IsHeaderName names
+    → AllByRecursion (λ name. 1 ≤ length name) names
 some_letters [] fits = tt
 some_letters (name ∷ names) fits = (fits.0.is_name.not_empty, some_letters names fits.1)
 
@@ -90,27 +94,35 @@ pub header_again : (names : List (List ℕ)) → IsHeader names → read_header 
 unfolding read_header
 header_again names header = ap (placed (length (spelled_header names))) (names_read names header)
 
-placed_by : (size : ℕ) (read : Result (List (List ℕ)) ℕ) (names : List (List ℕ)) → placed size read ≡ Ok names → read ≡ Ok names
+placed_by : (size : ℕ) (read : Result (List (List ℕ)) ℕ) (names : List (List ℕ)) → placed size read ≡ Ok names
+    → read ≡ Ok names
 placed_by size (Ok found) names e = e
 placed_by size (Err left) names e = absurd cc
 
 -- and what is read is spelled so
-pub header_is_read : (header : List ℕ) (names : List (List ℕ)) → read_header header ≡ Ok names → IsReadHeader header names
+pub header_is_read : (header : List ℕ) (names : List (List ℕ)) → read_header header ≡ Ok names
+    → IsReadHeader header names
 unfolding read_header
 header_is_read header names e = names_take header names (placed_by (length header) (all_names header) names e)
 
-pub spelling_of_header : (header : List ℕ) (names : List (List ℕ)) → All (λ b. b < 256) header → read_header header ≡ Ok names → spelled_header names ≡ header
+pub spelling_of_header : (header : List ℕ) (names : List (List ℕ)) → All (λ b. b < 256) header
+    → read_header header ≡ Ok names → spelled_header names ≡ header
 spelling_of_header header names bytes e = (header_is_read header names e).spelling (IsBytes-from_All header bytes)
 
 same_names : (names others : List (List ℕ)) → placed 0 (Ok names) ≡ placed 0 (Ok others) → names ≡ others
 same_names names others e = cc
 
-pub headers_apart : (names others : List (List ℕ)) → IsHeader names → IsHeader others → spelled_header names ≡ spelled_header others → names ≡ others
-headers_apart names others one other e = same_names names others (sym (header_again names one) ∙ ap read_header e ∙ header_again others other)
+pub headers_apart : (names others : List (List ℕ)) → IsHeader names → IsHeader others
+    → spelled_header names ≡ spelled_header others → names ≡ others
+headers_apart names others one other e =
+    same_names names others (sym (header_again names one) ∙ ap read_header e ∙ header_again others other)
 
-names_short : (names : List (List ℕ)) → AllByRecursion IsHeaderName names → length (flat_map sized_name names) ≤ 101 * length names
+names_short : (names : List (List ℕ)) → AllByRecursion IsHeaderName names
+    → length (flat_map sized_name names) ≤ 101 * length names
 names_short [] fits = omega arith
-names_short (name ∷ names) fits = omega (arith, length-append (sized_name name) (flat_map sized_name names), fits.0.is_name.not_long, names_short names fits.1)
+names_short (name ∷ names) fits =
+    omega (arith, length-append (sized_name name) (flat_map sized_name names), fits.0.is_name.not_long, names_short names fits.1)
 
 pub header_short : (names : List (List ℕ)) → IsHeader names → length (spelled_header names) ≤ longest_header
-header_short names header = omega (arith, names_short names (recursion_from_All IsHeaderName names header.each), header.not_many)
+header_short names header =
+    omega (arith, names_short names (recursion_from_All IsHeaderName names header.each), header.not_many)

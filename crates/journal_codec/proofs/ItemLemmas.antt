@@ -23,7 +23,8 @@ abbrev pub after_others : {A : Type 0} → A × List ℕ → List A × List ℕ 
 after_others first others = Ok (first.0 ∷ others.0, others.1)
 
 abbrev pub after_first : {A : Type 0} → Reader A → (A → List ℕ) → ℕ → A × List ℕ → Field (List A)
-after_first item_at name_in count first = items_at item_at name_in count (name_in first.0) first.1 >>= after_others first
+after_first item_at name_in count first =
+    items_at item_at name_in count (name_in first.0) first.1 >>= after_others first
 
 -- what an item that was read took from the front of the bytes
 pub record TakesItem {A : Type 0} (name_in spelled_item : A → List ℕ) (Fits : A → Type 0) (previous bytes : List ℕ)
@@ -85,7 +86,8 @@ pub items_keep : {A : Type 0} (item_at : Reader A) (name_in : A → List ℕ) (t
     → ((previous bytes : List ℕ) (x : A × List ℕ) → item_at previous bytes ≡ Ok x → test x.0 ≡ true)
     → (count : ℕ) (previous bytes : List ℕ) (x : List A × List ℕ)
     → items_at item_at name_in count previous bytes ≡ Ok x → list_all test x.0 ≡ true
-items_keep {A} item_at name_in test keeps zero previous bytes x e = subst (λ (p : List A × List ℕ). list_all test p.0 ≡ true) (ok_is ([], bytes) x e) refl
+items_keep {A} item_at name_in test keeps zero previous bytes x e =
+    subst (λ (p : List A × List ℕ). list_all test p.0 ≡ true) (ok_is ([], bytes) x e) refl
 items_keep {A} item_at name_in test keeps (suc count) previous bytes x e =
     let f = bind_ok (item_at previous bytes) (after_first item_at name_in count) x e in
     let o = bind_ok (items_at item_at name_in count (name_in f.0.0) f.0.1) (after_others f.0) x f.2 in

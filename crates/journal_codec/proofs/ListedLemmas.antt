@@ -25,9 +25,12 @@ contains_listed (first ∷ names) name e = elim (pointwise nat_eq first name) as
       (suc there.0, omega (arith, there.1), there.2)
 ] refl e
 
-listed_at : (names : List (List ℕ)) (name : List ℕ) (k : ℕ) → k < length names → slice_index_or names k name ≡ name → is_listed names name ≡ true
+listed_at : (names : List (List ℕ)) (name : List ℕ) (k : ℕ) → k < length names → slice_index_or names k name ≡ name
+    → is_listed names name ≡ true
 listed_at [] name k lt is = absurd (omega arith)
-listed_at (first ∷ names) name zero lt is = ap (λ (text : List ℕ). pointwise nat_eq text name || is_listed names name) is ∙ ap (λ (b : Bool). b || is_listed names name) (nat_list_eq_equiv.refl name)
+listed_at (first ∷ names) name zero lt is =
+    ap (λ (text : List ℕ). pointwise nat_eq text name || is_listed names name) is
+    ∙ ap (λ (b : Bool). b || is_listed names name) (nat_list_eq_equiv.refl name)
 listed_at (first ∷ names) name (suc k) lt is = elim (pointwise nat_eq first name) as (λ b. (b || is_listed names name) ≡ true) [
   | true ↦ refl
   | false ↦ listed_at names name k (omega arith) is
@@ -37,7 +40,8 @@ pub is_listed-Decides : (names : List (List ℕ)) (name : List ℕ) → Decides 
 is_listed-Decides names name = (contains_listed names name, λ there. listed_at names name there.0 there.1 there.2)
 
 -- bytes that were read by one rule are read by another that they keep
-bytes_by : (rule other : List ℕ → Bool) (size : ℕ) (bytes : List ℕ) (x : List ℕ × List ℕ) → bytes_at rule size bytes ≡ Ok x → other x.0 ≡ true → bytes_at other size bytes ≡ Ok x
+bytes_by : (rule other : List ℕ → Bool) (size : ℕ) (bytes : List ℕ) (x : List ℕ × List ℕ)
+    → bytes_at rule size bytes ≡ Ok x → other x.0 ≡ true → bytes_at other size bytes ≡ Ok x
 bytes_by rule other size bytes x e good =
     let taken = bytes_takes rule size bytes x e in
     ap₂ (bytes_at other) (sym taken.count) taken.parts ∙ bytes_again other x.0 x.1 good
@@ -47,7 +51,8 @@ pub record IsReadBy (rule : NameRule) (previous bytes : List ℕ) (x : FileText 
   pub keeps : rule previous x.0.file ≡ true
   pub others : (other : NameRule) → other previous x.0.file ≡ true → file_at other previous bytes ≡ Ok x
 
-file_by : (rule : NameRule) (previous bytes : List ℕ) (x : FileText × List ℕ) → file_at rule previous bytes ≡ Ok x → IsReadBy rule previous bytes x
+file_by : (rule : NameRule) (previous bytes : List ℕ) (x : FileText × List ℕ) → file_at rule previous bytes ≡ Ok x
+    → IsReadBy rule previous bytes x
 unfolding file_at
 file_by rule previous bytes x e =
     let s = bind_ok (byte_at bytes) (after_size rule previous) x e in
@@ -67,16 +72,20 @@ file_by rule previous bytes x e =
 abbrev of_names : List (List ℕ) → NameRule
 of_names names = is_next_of (Some names)
 
-file_listed : (names : List (List ℕ)) (previous bytes : List ℕ) (x : FileText × List ℕ) → file_at (of_names names) previous bytes ≡ Ok x → is_listed names x.0.file ≡ true
-file_listed names previous bytes x e = among_from (Some names) previous x.0.file (file_by (of_names names) previous bytes x e).keeps
+file_listed : (names : List (List ℕ)) (previous bytes : List ℕ) (x : FileText × List ℕ)
+    → file_at (of_names names) previous bytes ≡ Ok x → is_listed names x.0.file ≡ true
+file_listed names previous bytes x e =
+    among_from (Some names) previous x.0.file (file_by (of_names names) previous bytes x e).keeps
 
-file_plain : (names : List (List ℕ)) (previous bytes : List ℕ) (x : FileText × List ℕ) → file_at (of_names names) previous bytes ≡ Ok x → is_listed names x.0.file ≡ true
+file_plain : (names : List (List ℕ)) (previous bytes : List ℕ) (x : FileText × List ℕ)
+    → file_at (of_names names) previous bytes ≡ Ok x → is_listed names x.0.file ≡ true
     → file_at is_next_name previous bytes ≡ Ok x
 file_plain names previous bytes x e listed =
     let read = file_by (of_names names) previous bytes x e in
     read.others is_next_name (next_of_keeps (Some names) previous x.0.file read.keeps)
 
-file_of_names : (names : List (List ℕ)) (previous bytes : List ℕ) (x : FileText × List ℕ) → file_at is_next_name previous bytes ≡ Ok x → is_listed names x.0.file ≡ true
+file_of_names : (names : List (List ℕ)) (previous bytes : List ℕ) (x : FileText × List ℕ)
+    → file_at is_next_name previous bytes ≡ Ok x → is_listed names x.0.file ≡ true
     → file_at (of_names names) previous bytes ≡ Ok x
 file_of_names names previous bytes x e listed =
     let read = file_by is_next_name previous bytes x e in
@@ -87,15 +96,20 @@ pub record IsAllOf (names : List (List ℕ)) (body : List ℕ) (files : List Fil
   pub listed : are_listed names files ≡ true
   pub plain : all_of is_next_name body ≡ Ok files
 
-all_plain : (names : List (List ℕ)) (body : List ℕ) (files : List FileText) → all_of (of_names names) body ≡ Ok files → IsAllOf names body files
+all_plain : (names : List (List ℕ)) (body : List ℕ) (files : List FileText) → all_of (of_names names) body ≡ Ok files
+    → IsAllOf names body files
 unfolding all_of files_at
 all_plain names body files e =
     let all = counted_takes (files_at (of_names names)) body files e in
     let listed = items_keep (file_at (of_names names)) (λ f. f.file) (λ f. is_listed names f.file) (file_listed names) all.count [] all.behind (files, []) all.others in
     let others = items_alike (file_at (of_names names)) (file_at is_next_name) (λ f. f.file) (λ f. is_listed names f.file) (file_plain names) all.count [] all.behind (files, []) all.others listed in
-    record { listed = listed; plain = counted_again (files_at is_next_name) body files all.count all.behind all.first others }
+    record {
+      listed = listed;
+      plain = counted_again (files_at is_next_name) body files all.count all.behind all.first others;
+    }
 
-all_of_names : (names : List (List ℕ)) (body : List ℕ) (files : List FileText) → IsAllOf names body files → all_of (of_names names) body ≡ Ok files
+all_of_names : (names : List (List ℕ)) (body : List ℕ) (files : List FileText) → IsAllOf names body files
+    → all_of (of_names names) body ≡ Ok files
 unfolding all_of files_at
 all_of_names names body files is =
     let all = counted_takes (files_at is_next_name) body files is.plain in
@@ -103,15 +117,18 @@ all_of_names names body files is =
     counted_again (files_at (of_names names)) body files all.count all.behind all.first others
 
 -- what a body reads as that says that another gate follows, and one that doesn't
-pub listed_reads : (names : List (List ℕ)) (body : List ℕ) (read : Result (List FileText) ℕ) → followed body ≡ true → all_of (of_names names) (uncounted body) ≡ read
+pub listed_reads : (names : List (List ℕ)) (body : List ℕ) (read : Result (List FileText) ℕ) → followed body ≡ true
+    → all_of (of_names names) (uncounted body) ≡ read
     → read_listed names body ≡ reading_of (length body) read
 unfolding read_listed
 listed_reads names body read goes_on e =
-    ap (λ (b : Bool). cond b (reading_of (length body) (all_of (of_names names) (uncounted body))) (Fails 0)) goes_on ∙ ap (reading_of (length body)) e
+    ap (λ (b : Bool). cond b (reading_of (length body) (all_of (of_names names) (uncounted body))) (Fails 0)) goes_on
+    ∙ ap (reading_of (length body)) e
 
 pub listed_ends : (names : List (List ℕ)) (body : List ℕ) → followed body ≡ false → read_listed names body ≡ Fails 0
 unfolding read_listed
-listed_ends names body ends = ap (λ (b : Bool). cond b (reading_of (length body) (all_of (of_names names) (uncounted body))) (Fails 0)) ends
+listed_ends names body ends =
+    ap (λ (b : Bool). cond b (reading_of (length body) (all_of (of_names names) (uncounted body))) (Fails 0)) ends
 
 -- what is read of a body of a header's files
 pub record IsListedBody (names : List (List ℕ)) (body : List ℕ) (files : List FileText) : Type 0 where
@@ -119,7 +136,8 @@ pub record IsListedBody (names : List (List ℕ)) (body : List ℕ) (files : Lis
   pub listed : are_listed names files ≡ true
   pub plain : read_body (uncounted body) ≡ Reads files
 
-pub listed_is_read : (names : List (List ℕ)) (body : List ℕ) (files : List FileText) → read_listed names body ≡ Reads files → IsListedBody names body files
+pub listed_is_read : (names : List (List ℕ)) (body : List ℕ) (files : List FileText)
+    → read_listed names body ≡ Reads files → IsListedBody names body files
 unfolding read_listed read_body
 listed_is_read names body files e = elim (followed body) as (λ b. followed body ≡ b → cond b (reading_of (length body) (all_of (of_names names) (uncounted body))) (Fails 0) ≡ Reads files → IsListedBody names body files) [
   | true ↦ λ goes_on e.
@@ -128,13 +146,15 @@ listed_is_read names body files e = elim (followed body) as (λ b. followed body
   | false ↦ λ ends e. absurd cc
 ] refl e
 
-pub listed_from : (names : List (List ℕ)) (body : List ℕ) (files : List FileText) → IsListedBody names body files → read_listed names body ≡ Reads files
+pub listed_from : (names : List (List ℕ)) (body : List ℕ) (files : List FileText) → IsListedBody names body files
+    → read_listed names body ≡ Reads files
 unfolding read_body
 listed_from names body files is =
     let plain = reads_by (length (uncounted body)) (all_of is_next_name (uncounted body)) files is.plain in
     listed_reads names body (Ok files) is.goes_on (all_of_names names (uncounted body) files (record { listed = is.listed; plain = plain }))
 
-pub listed_spelled : (names : List (List ℕ)) (body : List ℕ) (entry : List FileText) → IsBytes body → read_listed names body ≡ Reads entry
+pub listed_spelled : (names : List (List ℕ)) (body : List ℕ) (entry : List FileText) → IsBytes body
+    → read_listed names body ≡ Reads entry
     → IsEntry entry × (are_listed names entry ≡ true) × (spelled_on entry ≡ body)
 listed_spelled names body entry bytes e =
     let is = listed_is_read names body entry e in
@@ -142,6 +162,7 @@ listed_spelled names body entry bytes e =
     (read.entry, is.listed, spelled_so body entry is.goes_on (read.spelling (IsBytes-uncounted body bytes)))
 
 -- what is spelled of such files is read again
-pub listed_again : (names : List (List ℕ)) (entry : List FileText) → IsEntry entry → are_listed names entry ≡ true → read_listed names (spelled_on entry) ≡ Reads entry
+pub listed_again : (names : List (List ℕ)) (entry : List FileText) → IsEntry entry → are_listed names entry ≡ true
+    → read_listed names (spelled_on entry) ≡ Reads entry
 listed_again names entry is listed =
     listed_from names (spelled_on entry) entry (record { goes_on = followed-spelled_on entry is; listed = listed; plain = read_again_on entry is })

@@ -24,7 +24,8 @@ CanFollow count previous [] None = Unit {0}
 CanFollow zero previous [] (Some name) = ⊥
 CanFollow (suc count) previous [] (Some name) = is_next_name previous name ≡ true
 CanFollow zero previous (f ∷ files) next = ⊥
-CanFollow (suc count) previous (f ∷ files) next = (slice_cmp nat_cmp previous f.file ≡ Less) × IsEntryFile f × CanFollow count f.file files next
+CanFollow (suc count) previous (f ∷ files) next =
+    (slice_cmp nat_cmp previous f.file ≡ Less) × IsEntryFile f × CanFollow count f.file files next
 
 -- their bytes
 abbrev pub bytes_from : List FileText → Option (List ℕ) → List ℕ
@@ -37,12 +38,14 @@ left_of (Err left) = left
 
 -- such texts are these, or shorter
 abbrev pub IsNoLonger : List FileText → Option (List ℕ) → List FileText → Option (List ℕ) → Type 0
-IsNoLonger others other files next = ((others ≡ files) × (other ≡ next)) ⊎ (length (bytes_from others other) < length (bytes_from files next))
+IsNoLonger others other files next =
+    ((others ≡ files) × (other ≡ next)) ⊎ (length (bytes_from others other) < length (bytes_from files next))
 
 -- none that the bytes begin with is longer
 abbrev pub IsLongest : ℕ → List ℕ → List ℕ → List FileText → Option (List ℕ) → Type 0
 IsLongest count previous bytes files next = (others : List FileText) (other : Option (List ℕ))
-    → CanFollow count previous others other → IsFront (bytes_from others other) bytes → IsNoLonger others other files next
+    → CanFollow count previous others other → IsFront (bytes_from others other) bytes
+    → IsNoLonger others other files next
 
 -- so far files can be read
 pub record Stops (count : ℕ) (previous bytes : List ℕ) (left : ℕ) : Type 0 where
@@ -74,25 +77,34 @@ tail_is a b xs ys e = cc
 behind_file : (f : FileText) (files : List FileText) (next : Option (List ℕ)) (rest : List ℕ)
     → bytes_from (f ∷ files) next ++ rest ≡ spelled_file f ++ (bytes_from files next ++ rest)
 behind_file f files next rest =
-    ap (λ (x : List ℕ). x ++ rest) (append_assoc (spelled_file f) (flat_map spelled_file files) (spelled_name next)) ∙ append_assoc (spelled_file f) (bytes_from files next) rest
+    ap (λ (x : List ℕ). x ++ rest) (append_assoc (spelled_file f) (flat_map spelled_file files) (spelled_name next))
+    ∙ append_assoc (spelled_file f) (bytes_from files next) rest
 
 length_behind : (f : FileText) (files : List FileText) (next : Option (List ℕ))
     → length (bytes_from (f ∷ files) next) ≡ length (spelled_file f) + length (bytes_from files next)
-length_behind f files next = ap length (append_assoc (spelled_file f) (flat_map spelled_file files) (spelled_name next)) ∙ length-append (spelled_file f) (bytes_from files next)
+length_behind f files next =
+    ap length (append_assoc (spelled_file f) (flat_map spelled_file files) (spelled_name next))
+    ∙ length-append (spelled_file f) (bytes_from files next)
 
 -- a file is longer than its name behind its length
 above_name : (f : FileText) → 1 + length f.file < length (spelled_file f)
-above_name f = omega (arith, length-append f.file (length_bytes (length f.bytes) ++ f.bytes), length-append (length_bytes (length f.bytes)) f.bytes)
+above_name f =
+    omega (arith, length-append f.file (length_bytes (length f.bytes) ++ f.bytes), length-append (length_bytes (length f.bytes)) f.bytes)
 
 -- a first file is read
-first_read : (count : ℕ) (previous bytes : List ℕ) (f : FileText) (files : List FileText) (next : Option (List ℕ)) (rest : List ℕ) → CanFollow (suc count) previous (f ∷ files) next
-    → bytes ≡ bytes_from (f ∷ files) next ++ rest → file_at is_next_name previous bytes ≡ Ok (f, bytes_from files next ++ rest)
+first_read : (count : ℕ) (previous bytes : List ℕ) (f : FileText) (files : List FileText) (next : Option (List ℕ))
+    (rest : List ℕ) → CanFollow (suc count) previous (f ∷ files) next
+    → bytes ≡ bytes_from (f ∷ files) next ++ rest
+    → file_at is_next_name previous bytes ≡ Ok (f, bytes_from files next ++ rest)
 first_read count previous bytes f files next rest follows is =
-    ap (file_at is_next_name previous) (is ∙ behind_file f files next rest) ∙ file_again previous f (bytes_from files next ++ rest) follows.1 follows.0
+    ap (file_at is_next_name previous) (is ∙ behind_file f files next rest)
+    ∙ file_again previous f (bytes_from files next ++ rest) follows.1 follows.0
 
 -- and so none is where none is read
-no_file : (count : ℕ) (previous bytes : List ℕ) (left : ℕ) (f : FileText) (files : List FileText) (next : Option (List ℕ))
-    → file_at is_next_name previous bytes ≡ Err left → CanFollow (suc count) previous (f ∷ files) next → IsFront (bytes_from (f ∷ files) next) bytes → ⊥
+no_file : (count : ℕ) (previous bytes : List ℕ) (left : ℕ) (f : FileText) (files : List FileText)
+    (next : Option (List ℕ))
+    → file_at is_next_name previous bytes ≡ Err left → CanFollow (suc count) previous (f ∷ files) next
+    → IsFront (bytes_from (f ∷ files) next) bytes → ⊥
 no_file count previous bytes left f files next stop follows front =
     not_both (file_at is_next_name previous bytes) (f, bytes_from files next ++ front.0) left (first_read count previous bytes f files next front.0 follows front.1) stop
 
@@ -120,7 +132,8 @@ due_none : (count : ℕ) (files : List FileText) → length files ≡ count → 
 due_none count files all = rw (eq-eqb (length files) count all) refl
 
 -- so many bytes are left with that length, or without
-left_from : (left due n : ℕ) (rest : List ℕ) → due ≡ n → left + passed n rest ≡ length rest → left + passed due rest ≡ length rest
+left_from : (left due n : ℕ) (rest : List ℕ) → due ≡ n → left + passed n rest ≡ length rest
+    → left + passed due rest ≡ length rest
 left_from left due n rest same is = rw same is
 
 -- no name, and no byte where its length would be
@@ -157,13 +170,16 @@ stops_at_name count previous n behind left stop no_name left_is = record {
   where
     longest : IsLongest (suc count) previous (n ∷ behind) [] None
     longest [] None follows front = inl (refl, refl)
-    longest [] (Some name) follows front = absurd (not_both (bytes_at (is_next_name previous) n behind) (name, front.0) left (name_read previous n behind name front.0 follows front.1) no_name)
-    longest (f ∷ files) other follows front = absurd (no_file count previous (n ∷ behind) left f files other stop follows front)
+    longest [] (Some name) follows front =
+        absurd (not_both (bytes_at (is_next_name previous) n behind) (name, front.0) left (name_read previous n behind name front.0 follows front.1) no_name)
+    longest (f ∷ files) other follows front =
+        absurd (no_file count previous (n ∷ behind) left f files other stop follows front)
 
 -- a name that is read, and no content behind it
 stops_behind_name : (count : ℕ) (previous : List ℕ) (n : ℕ) (behind name rest : List ℕ) (left : ℕ)
     → file_at is_next_name previous (n ∷ behind) ≡ Err left
-    → bytes_at (is_next_name previous) n behind ≡ Ok (name, rest) → left + passed 4 rest ≡ length rest → Stops (suc count) previous (n ∷ behind) left
+    → bytes_at (is_next_name previous) n behind ≡ Ok (name, rest) → left + passed 4 rest ≡ length rest
+    → Stops (suc count) previous (n ∷ behind) left
 stops_behind_name count previous n behind name rest left stop read left_is =
     let taken = bytes_takes (is_next_name previous) n behind (name, rest) read in
     record {
@@ -181,10 +197,12 @@ stops_behind_name count previous n behind name rest left stop read left_is =
     longest [] (Some other) follows front =
         let same = ok_is (name, rest) (other, front.0) (sym read ∙ name_read previous n behind other front.0 follows front.1) in
         inl (refl, ap (λ (x : List ℕ × List ℕ). Some x.0) (sym same))
-    longest (f ∷ files) other follows front = absurd (no_file count previous (n ∷ behind) left f files other stop follows front)
+    longest (f ∷ files) other follows front =
+        absurd (no_file count previous (n ∷ behind) left f files other stop follows front)
 
 -- how many bytes are left where a content has no reading behind a name
-content_stops : (name : List ℕ × List ℕ) (left : ℕ) → after_name name ≡ Err left → left + passed 4 name.1 ≡ length name.1
+content_stops : (name : List ℕ × List ℕ) (left : ℕ) → after_name name ≡ Err left
+    → left + passed 4 name.1 ≡ length name.1
 content_stops name left e = elim (number_at name.1) as (λ r. number_at name.1 ≡ r → (r >>= after_length name) ≡ Err left → left + passed 4 name.1 ≡ length name.1) [
   | Err stop ↦ λ is e.
       let c = checked_stops (leb 4 (length name.1)) name.1 (number_of (take 4 name.1), drop 4 name.1) stop is in
@@ -197,7 +215,8 @@ content_stops name left e = elim (number_at name.1) as (λ r. number_at name.1 �
       rw c.0 (omega (arith, leb-true 4 (length name.1) c.0, stop, rest, length-drop 4 name.1))
 ] refl e
   where
-    behind_length : (name : List ℕ × List ℕ) (size : ℕ × List ℕ) (left : ℕ) → after_length name size ≡ Err left → left ≡ length size.1
+    behind_length : (name : List ℕ × List ℕ) (size : ℕ × List ℕ) (left : ℕ) → after_length name size ≡ Err left
+        → left ≡ length size.1
     behind_length name size left e = elim (bytes_at is_content size.0 size.1) as (λ r. bytes_at is_content size.0 size.1 ≡ r → (r >>= after_content name) ≡ Err left → left ≡ length size.1) [
       | Err stop ↦ λ is e.
           let c = checked_stops (leb size.0 (length size.1) && is_content (take size.0 size.1)) size.1 (take size.0 size.1, drop size.0 size.1) stop is in
@@ -207,9 +226,11 @@ content_stops name left e = elim (number_at name.1) as (λ r. number_at name.1 �
     ] refl e
 
 -- a file that has no reading
-stops_in_file : (count : ℕ) (previous bytes : List ℕ) (left : ℕ) → file_at is_next_name previous bytes ≡ Err left → Stops (suc count) previous bytes left
+stops_in_file : (count : ℕ) (previous bytes : List ℕ) (left : ℕ) → file_at is_next_name previous bytes ≡ Err left
+    → Stops (suc count) previous bytes left
 unfolding file_at
-stops_in_file count previous [] left e = let none : 0 ≡ left = cc in subst (Stops (suc count) previous []) none (stops_at_end count previous)
+stops_in_file count previous [] left e =
+    let none : 0 ≡ left = cc in subst (Stops (suc count) previous []) none (stops_at_end count previous)
 stops_in_file count previous (n ∷ behind) left e = elim (bytes_at (is_next_name previous) n behind) as (λ r. bytes_at (is_next_name previous) n behind ≡ r → (r >>= after_name) ≡ Err left → Stops (suc count) previous (n ∷ behind) left) [
   | Err stop ↦ λ is d.
       let same : stop ≡ left = cc in
@@ -262,7 +283,8 @@ stops_on count previous bytes x left is_bytes read stops =
         ]
 
 -- files are read up to the first that has no reading, or up to so many
-pub walks : (count : ℕ) (previous bytes : List ℕ) → IsBytes bytes → Stops count previous bytes (left_of (files_at is_next_name count previous bytes))
+pub walks : (count : ℕ) (previous bytes : List ℕ) → IsBytes bytes
+    → Stops count previous bytes (left_of (files_at is_next_name count previous bytes))
 unfolding files_at
 walks zero previous bytes is_bytes = record {
   files = [];
@@ -288,8 +310,10 @@ walks (suc count) previous bytes is_bytes = elim (file_at is_next_name previous 
 -- ---- a whole body
 
 -- files that can follow nothing are the first of an entry, and such files can
-follows_is : (count : ℕ) (previous : List ℕ) (files : List FileText) (next : Option (List ℕ)) → CanFollow count previous files next
-    → Rises previous (names_of (files ++ named next)) × AllByRecursion IsEntryFile (files ++ named next) × (length (files ++ named next) ≤ count)
+follows_is : (count : ℕ) (previous : List ℕ) (files : List FileText) (next : Option (List ℕ))
+    → CanFollow count previous files next
+    → Rises previous (names_of (files ++ named next)) × AllByRecursion IsEntryFile (files ++ named next)
+    × (length (files ++ named next) ≤ count)
 follows_is count previous [] None follows = (tt, tt, omega arith)
 follows_is zero previous [] (Some name) follows = absurd follows
 follows_is (suc count) previous [] (Some name) follows =
@@ -305,9 +329,11 @@ follows_from : (count : ℕ) (previous : List ℕ) (files : List FileText) (next
     → length (files ++ named next) ≤ count → CanFollow count previous files next
 follows_from count previous [] None rises each le = tt
 follows_from zero previous [] (Some name) rises each le = absurd (omega (arith, le))
-follows_from (suc count) previous [] (Some name) rises each le = next_name_from previous name (record { is_name = each.0.is_name; not_journal = each.0.not_journal; above = rises.0 })
+follows_from (suc count) previous [] (Some name) rises each le =
+    next_name_from previous name (record { is_name = each.0.is_name; not_journal = each.0.not_journal; above = rises.0 })
 follows_from zero previous (f ∷ files) next rises each le = absurd (omega (arith, le))
-follows_from (suc count) previous (f ∷ files) next rises each le = (rises.0, each.0, follows_from count f.file files next rises.1 each.1 (omega (arith, le)))
+follows_from (suc count) previous (f ∷ files) next rises each le =
+    (rises.0, each.0, follows_from count f.file files next rises.1 each.1 (omega (arith, le)))
 
 first_from : (count : ℕ) (files : List FileText) (next : Option (List ℕ)) → 1 ≤ count → count ≤ most_files
     → CanFollow count [] files next → CanBegin (Begun count files next)
@@ -364,7 +390,8 @@ count_stops [] left e = cc
 count_stops (b ∷ rest) left e = (checked_stops (is_count b) (b ∷ rest) (b, rest) left e).1
 
 -- a count, and files behind it
-ends_behind : (body : List ℕ) (x : ℕ × List ℕ) (left : ℕ) → count_at body ≡ Ok x → Stops x.0 [] x.1 left → Ends body left
+ends_behind : (body : List ℕ) (x : ℕ × List ℕ) (left : ℕ) → count_at body ≡ Ok x → Stops x.0 [] x.1 left
+    → Ends body left
 ends_behind body x left read stops =
     let count = count_takes body x read in
     record {
@@ -427,9 +454,11 @@ place_of body at is_bytes e =
     }
 
 -- the same bytes behind the same beginning
-same_place : (body : List ℕ) (begun other : Beginning) (rest others : List ℕ) → begun ≡ other → body ≡ bytes_of begun ++ rest
+same_place : (body : List ℕ) (begun other : Beginning) (rest others : List ℕ) → begun ≡ other
+    → body ≡ bytes_of begun ++ rest
     → body ≡ bytes_of other ++ others
-    → length (bytes_of begun) + passed (length_due begun) rest ≡ length (bytes_of other) + passed (length_due other) others
+    → length (bytes_of begun) + passed (length_due begun) rest
+    ≡ length (bytes_of other) + passed (length_due other) others
 same_place body begun other rest others same front behind =
     let long : length rest ≡ length others = omega (arith, ap length front, ap length behind, length-append (bytes_of begun) rest, length-append (bytes_of other) others, ap (λ (b : Beginning). length (bytes_of b)) same) in
     rw (same, long) refl

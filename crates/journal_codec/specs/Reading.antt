@@ -38,7 +38,8 @@ number_at bytes = checked (nat_le 4 (length bytes)) bytes (number_of (take 4 byt
 
 -- so many bytes that keep a rule
 abbrev pub bytes_at : (List ℕ → Bool) → ℕ → List ℕ → Field (List ℕ)
-bytes_at rule size bytes = checked (nat_le size (length bytes) && rule (take size bytes)) bytes (take size bytes, drop size bytes)
+bytes_at rule size bytes =
+    checked (nat_le size (length bytes) && rule (take size bytes)) bytes (take size bytes, drop size bytes)
 
 -- 1 to 64
 abbrev pub is_count : ℕ → Bool
@@ -52,7 +53,8 @@ count_at body = do
 
 -- a file's name that isn't the journal's, and is above the name before it
 abbrev pub is_next_name : List ℕ → List ℕ → Bool
-is_next_name previous name = is_file_name name && (not (begins_with_journal name) && is_lt (slice_cmp nat_cmp previous name))
+is_next_name previous name =
+    is_file_name name && (not (begins_with_journal name) && is_lt (slice_cmp nat_cmp previous name))
 
 -- not too long
 abbrev pub is_content : List ℕ → Bool

@@ -14,18 +14,23 @@ ghost use Rattle.journal_codec.specs.Places.{IsPlace};
 /// it.
 pub fn reads_what_is_spelled()
     ensures again { (files : List FileText) → IsEntry files → read_body (uncounted (spelled files)) ≡ Reads files }
-    ensures again_on { (files : List FileText) → IsEntry files → read_body (uncounted (spelled_on files)) ≡ Reads files }
+    ensures again_on { (files : List FileText) → IsEntry files
+        → read_body (uncounted (spelled_on files)) ≡ Reads files }
     ensures ends { (files : List FileText) → IsEntry files → is_followed (spelled files) ≡ false }
     ensures goes_on { (files : List FileText) → IsEntry files → is_followed (spelled_on files) ≡ true }
-    ensures apart { (files others : List FileText) → IsEntry files → IsEntry others → spelled files ≡ spelled others → files ≡ others }
-    ensures apart_on { (files others : List FileText) → IsEntry files → IsEntry others → spelled_on files ≡ spelled_on others → files ≡ others }
+    ensures apart { (files others : List FileText) → IsEntry files → IsEntry others → spelled files ≡ spelled others
+        → files ≡ others }
+    ensures apart_on { (files others : List FileText) → IsEntry files → IsEntry others
+        → spelled_on files ≡ spelled_on others → files ≡ others }
 {}
 
 /// What is read is an entry, and the bytes are its spelling: the one of the form that its count tells.
 pub fn spells_what_is_read()
     ensures entry { (body : List ℕ) (files : List FileText) → read_body (uncounted body) ≡ Reads files → IsEntry files }
-    ensures spelling { (body : List ℕ) (files : List FileText) → All (λ b. b < 256) body → is_followed body ≡ false → read_body (uncounted body) ≡ Reads files → spelled files ≡ body }
-    ensures spelling_on { (body : List ℕ) (files : List FileText) → All (λ b. b < 256) body → is_followed body ≡ true → read_body (uncounted body) ≡ Reads files → spelled_on files ≡ body }
+    ensures spelling { (body : List ℕ) (files : List FileText) → All (λ b. b < 256) body → is_followed body ≡ false
+        → read_body (uncounted body) ≡ Reads files → spelled files ≡ body }
+    ensures spelling_on { (body : List ℕ) (files : List FileText) → All (λ b. b < 256) body → is_followed body ≡ true
+        → read_body (uncounted body) ≡ Reads files → spelled_on files ≡ body }
 {}
 
 /// A body with its plain count is refused at the place behind the longest beginning that an entry's body can have, and

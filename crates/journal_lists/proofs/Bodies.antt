@@ -23,7 +23,8 @@ same_entry other entry is = cc
 -- what stands behind the gate of an entry
 module _ (rule : Rule) (entry : List FileText) (is : IsAllowed rule entry) (more : List ℕ) where
   size_there : size_of (behind_gate entry ++ more) ≡ length (spelled_on entry)
-  size_there = let short = length-spelled_on entry is.is_entry in from_le_bytes-to_le_bytes_4 (length (spelled_on entry)) (omega arith)
+  size_there =
+      let short = length-spelled_on entry is.is_entry in from_le_bytes-to_le_bytes_4 (length (spelled_on entry)) (omega arith)
 
   body_there : body_of (behind_gate entry ++ more) ≡ spelled_on entry
   body_there = ap (λ (n : ℕ). take n (spelled_on entry ++ more)) size_there ∙ take-append_seam (spelled_on entry) more
@@ -45,7 +46,8 @@ module _ (rule : Rule) (entry : List FileText) (is : IsAllowed rule entry) (more
     whole_is number place other whole =
         same_entry other entry (sym whole.body ∙ subst (λ (t : List ℕ). body_in rule (size_of t) (body_of t) ≡ Ok entry) (sym there) whole_there)
 
-    pub is_whole : (number place : ℕ) → number < most_entries → place + head_size + length (spelled_on entry) ≤ last_place → IsWhole rule number place tail entry
+    pub is_whole : (number place : ℕ) → number < most_entries
+        → place + head_size + length (spelled_on entry) ≤ last_place → IsWhole rule number place tail entry
     is_whole number place few within =
         let size = ap size_of there ∙ size_there in
         record {
@@ -55,9 +57,11 @@ module _ (rule : Rule) (entry : List FileText) (is : IsAllowed rule entry) (more
         }
 
     pub goes_on : followed (body_of tail) ≡ true
-    goes_on = ap (λ (t : List ℕ). followed (body_of t)) there ∙ ap followed body_there ∙ followed-spelled_on entry is.is_entry
+    goes_on =
+        ap (λ (t : List ℕ). followed (body_of t)) there ∙ ap followed body_there ∙ followed-spelled_on entry is.is_entry
 
-    pub next_gate : (P : ℕ → ℕ → List ℕ → Type 0) (number place : ℕ) → P (number + 1) (place + head_size + size_of tail) (rest_of tail)
+    pub next_gate : (P : ℕ → ℕ → List ℕ → Type 0) (number place : ℕ)
+        → P (number + 1) (place + head_size + size_of tail) (rest_of tail)
         → P (number + 1) (place + head_size + length (spelled_on entry)) more
     next_gate P number place holds =
         subst (λ (size : ℕ). P (number + 1) (place + head_size + size) more) (ap size_of there ∙ size_there)

@@ -21,7 +21,8 @@ from_first : (left start : ℕ) (names : Option (List (List ℕ))) (c : List ℕ
 from_first left start names c none starts =
     let first : start ≡ 0 = starts ∙ ap start_of none in
     let there : start + 0 ≡ 0 = omega arith in
-    ap (λ (ns : Option (List (List ℕ))). rest_in (rule_of ns) left 0 (drop (start + 0) c)) none ∙ ap (λ (n : ℕ). rest_in plain left 0 (drop n c)) there
+    ap (λ (ns : Option (List (List ℕ))). rest_in (rule_of ns) left 0 (drop (start + 0) c)) none
+    ∙ ap (λ (n : ℕ). rest_in plain left 0 (drop n c)) there
 
 pub former_adds : (left start : ℕ) (names : Option (List (List ℕ))) (c : List ℕ) (new : List (List FileText))
     → left ≡ most_entries → names ≡ None → start ≡ start_of names
@@ -32,7 +33,8 @@ former_adds left start names c new all none starts adds =
 pub former_bad : (left start : ℕ) (names : Option (List (List ℕ))) (c : List ℕ) (at : ℕ) → left ≡ most_entries
     → names ≡ None → start ≡ start_of names
     → rest_in (rule_of names) left 0 (drop (start + 0) c) ≡ Err at → former_in c ≡ Err (BadJournal at)
-former_bad left start names c at all none starts bad = ap with_fault (list_bad plain left c at all (sym (from_first left start names c none starts) ∙ bad))
+former_bad left start names c at all none starts bad =
+    ap with_fault (list_bad plain left c at all (sym (from_first left start names c none starts) ∙ bad))
 
 -- ---- `journal2`
 
@@ -48,16 +50,19 @@ some_is (Some x) none told is = λ same. cc
 -- without a head there is no list
 pub journal_none : (names : Option (List (List ℕ))) (c : List ℕ) → head_in c ≡ Ok names → names ≡ None
     → journal_in c ≡ Ok []
-journal_none names c head none = ap (λ (h : Result (Option (List (List ℕ))) JournalFault). behind_head h c) (head ∙ ap (λ (ns : Option (List (List ℕ))). Ok ns) none)
+journal_none names c head none =
+    ap (λ (h : Result (Option (List (List ℕ))) JournalFault). behind_head h c) (head ∙ ap (λ (ns : Option (List (List ℕ))). Ok ns) none)
 
 pub journal_short : (c : List ℕ) → length c < head_start → journal_in c ≡ Ok []
 journal_short c short = journal_none None c (head_none c (inl short)) refl
 
 pub begins_short : (c : List ℕ) → length c < head_start → BeginsAt c 0
-begins_short c short = record { names = None; head = head_none c (inl short); start_is = refl; sized = λ some. absurd (some refl) }
+begins_short c short =
+    record { names = None; head = head_none c (inl short); start_is = refl; sized = λ some. absurd (some refl) }
 
 pub begins_none : (names : Option (List (List ℕ))) (c : List ℕ) → head_in c ≡ Ok names → names ≡ None → BeginsAt c 0
-begins_none names c head none = record { names = names; head = head; start_is = sym (ap start_of none); sized = λ some. absurd (some none) }
+begins_none names c head none =
+    record { names = names; head = head; start_is = sym (ap start_of none); sized = λ some. absurd (some none) }
 
 -- the reading from the gate behind the head on
 from_head : (left start : ℕ) (names : List (List ℕ)) (c : List ℕ) → start ≡ front_size names

@@ -175,4 +175,5 @@ opens_read rule number place c (entry ∷ entries) opens =
 -- there are no others
 pub opens_once : (rule : Rule) (journal : List ℕ) (entries others : List (List FileText))
     → OpensFrom rule 0 0 journal entries → OpensFrom rule 0 0 journal others → others ≡ entries
-opens_once rule journal entries others first second = ap entries_read (sym (list_reads rule journal others second) ∙ list_reads rule journal entries first)
+opens_once rule journal entries others first second =
+    ap entries_read (sym (list_reads rule journal others second) ∙ list_reads rule journal entries first)

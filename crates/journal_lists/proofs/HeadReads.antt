@@ -34,7 +34,9 @@ unfolding start_of_head
 start-not_open c not_open =
     when_false (nat_le head_start (length c)) (gate c == 1) _ (inr (false_from_ne_true (gate c == 1) (λ is. not_open (eqb-true (gate c) 1 is))))
 
-start-open : (x v a b d e : ℕ) (rest : List ℕ) → x ≡ 1 → start_of_head (x ∷ v ∷ a ∷ b ∷ d ∷ e ∷ rest) ≡ Some (record { version = v; size = number_of (a ∷ b ∷ d ∷ e ∷ []) })
+start-open : (x v a b d e : ℕ) (rest : List ℕ) → x ≡ 1
+    → start_of_head (x ∷ v ∷ a ∷ b ∷ d ∷ e ∷ rest)
+    ≡ Some (record { version = v; size = number_of (a ∷ b ∷ d ∷ e ∷ []) })
 unfolding start_of_head
 start-open x v a b d e rest is =
     let long : nat_le 6 (length (x ∷ v ∷ a ∷ b ∷ d ∷ e ∷ rest)) ≡ true = le-leb 6 (length (x ∷ v ∷ a ∷ b ∷ d ∷ e ∷ rest)) (omega arith) in
@@ -42,7 +44,8 @@ start-open x v a b d e rest is =
     λ i. cond (long i && opens i) (Some (record { version = v; size = number_of (a ∷ b ∷ d ∷ e ∷ []) })) None
 
 pub start-bytes : (c : List ℕ) → head_start ≤ length c → gate c ≡ 1
-    → start_of_head c ≡ Some (record { version = slice_index c 1; size = number_of (slice_index c 2 ∷ slice_index c 3 ∷ slice_index c 4 ∷ slice_index c 5 ∷ []) })
+    → start_of_head c
+    ≡ Some (record { version = slice_index c 1; size = number_of (slice_index c 2 ∷ slice_index c 3 ∷ slice_index c 4 ∷ slice_index c 5 ∷ []) })
 start-bytes (x ∷ v ∷ a ∷ b ∷ d ∷ e ∷ rest) long is = start-open x v a b d e rest is
 start-bytes [] long is = absurd (omega arith)
 start-bytes (x ∷ []) long is = absurd (omega arith)
@@ -87,7 +90,8 @@ absent_if false start head none = refl
 
 pub head_absent : (c : List ℕ) → start_of_head c ≡ None → head_in c ≡ Ok None
 unfolding start_of_head head_in
-head_absent c none = absent_if (nat_le head_start (length c) && (gate c == 1)) (record { version = version_of c; size = header_size c }) (known_head (version_of c) c) none
+head_absent c none =
+    absent_if (nat_le head_start (length c) && (gate c == 1)) (record { version = version_of c; size = header_size c }) (known_head (version_of c) c) none
 
 -- behind an open gate the head is read by its version
 pub record IsStart (c : List ℕ) (start : Start) : Type 0 where
@@ -104,13 +108,18 @@ pub start_is : (c : List ℕ) (start : Start) → start_of_head c ≡ Some start
 unfolding start_of_head head_in
 start_is c start is =
     let parts = there_if (nat_le head_start (length c) && (gate c == 1)) (record { version = version_of c; size = header_size c }) start (known_head (version_of c) c) is in
-    record { head = parts.0; version_is = sym (ap (λ (s : Start). s.version) parts.1); size_is = sym (ap (λ (s : Start). s.size) parts.1) }
+    record {
+      head = parts.0;
+      version_is = sym (ap (λ (s : Start). s.version) parts.1);
+      size_is = sym (ap (λ (s : Start). s.size) parts.1);
+    }
 
 pub head_unknown : (c : List ℕ) (start : Start) → start_of_head c ≡ Some start → start.version ≢ version
     → head_in c ≡ Err (UnknownVersion start.version)
 head_unknown c start is other =
     let from = start_is c start is in
-    from.head ∙ known_other c (λ same. other (from.version_is ∙ same)) ∙ ap (λ (n : ℕ). Err (UnknownVersion n)) (sym from.version_is)
+    from.head ∙ known_other c (λ same. other (from.version_is ∙ same))
+    ∙ ap (λ (n : ℕ). Err (UnknownVersion n)) (sym from.version_is)
 
 -- with the version that is known, by its header
 head_judged : (c : List ℕ) (start : Start) → start_of_head c ≡ Some start → start.version ≡ version
@@ -138,5 +147,6 @@ head_by c there start r is same there_is judged =
 pub told_header : (fault : DecodeFault) (r : Result (List (List ℕ)) ℕ) (at : ℕ)
     → ((inner : ℕ) → fault ≡ BadBytes inner → r ≡ Err (head_start + inner))
     → told_fault head_start fault ≡ BadJournal at → r ≡ Err at
-told_header (BadBytes inner) r at bad is = let same : head_start + inner ≡ at = cc in bad inner refl ∙ ap (λ (n : ℕ). Err n) same
+told_header (BadBytes inner) r at bad is =
+    let same : head_start + inner ≡ at = cc in bad inner refl ∙ ap (λ (n : ℕ). Err n) same
 told_header OutOfMemory r at bad is = absurd (cc)

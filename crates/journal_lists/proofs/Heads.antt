@@ -17,7 +17,8 @@ use Rattle.journal_lists.proofs.OpenReads.{drop_drop}
 header_judged : (size : ℕ) (there : List ℕ) → size ≤ longest_header
     → header_or_place size there ≡ whole_header (read_header there) size (length there)
 unfolding header_or_place
-header_judged size there short = ap (λ (b : Bool). cond b (whole_header (read_header there) size (length there)) (Err 2)) (le-leb size longest_header short)
+header_judged size there short =
+    ap (λ (b : Bool). cond b (whole_header (read_header there) size (length there)) (Err 2)) (le-leb size longest_header short)
 
 pub header_whole : (size : ℕ) (there : List ℕ) (names : List (List ℕ)) → size ≤ longest_header
     → read_header there ≡ Ok names → length there ≡ size → header_or_place size there ≡ Ok names
@@ -34,7 +35,8 @@ header_cut size there names short reads cut =
 
 pub header_bad : (size : ℕ) (there : List ℕ) (at : ℕ) → size ≤ longest_header → read_header there ≡ Err at
     → header_or_place size there ≡ Err (head_start + at)
-header_bad size there at short reads = header_judged size there short ∙ ap (λ (r : Result (List (List ℕ)) ℕ). whole_header r size (length there)) reads
+header_bad size there at short reads =
+    header_judged size there short ∙ ap (λ (r : Result (List (List ℕ)) ℕ). whole_header r size (length there)) reads
 
 pub header_long : (size : ℕ) (there : List ℕ) → longest_header < size → header_or_place size there ≡ Err 2
 unfolding header_or_place
@@ -59,10 +61,12 @@ header_length header names bytes reads = ap length ((header_is_read header names
 -- a head as it is written, with what stands behind it
 module _ (names : List (List ℕ)) (is : IsHeader names) (rest : List ℕ) where
   size_there : header_size (front names ++ rest) ≡ length (spelled_header names)
-  size_there = let short = header_short names is in from_le_bytes-to_le_bytes_4 (length (spelled_header names)) (omega arith)
+  size_there =
+      let short = header_short names is in from_le_bytes-to_le_bytes_4 (length (spelled_header names)) (omega arith)
 
   header_there : header_of (front names ++ rest) ≡ spelled_header names
-  header_there = ap (λ (n : ℕ). take n (spelled_header names ++ rest)) size_there ∙ take-append_seam (spelled_header names) rest
+  header_there =
+      ap (λ (n : ℕ). take n (spelled_header names ++ rest)) size_there ∙ take-append_seam (spelled_header names) rest
 
   -- it is a head with these names
   pub front_is_head : IsHead (front names ++ rest) names
@@ -77,7 +81,8 @@ module _ (names : List (List ℕ)) (is : IsHeader names) (rest : List ℕ) where
 -- and behind it stands the list
 pub drop_front : (names : List (List ℕ)) (rest : List ℕ) → drop (front_size names) (front names ++ rest) ≡ rest
 drop_front names rest =
-    sym (drop_drop (length (spelled_header names)) head_start (front names ++ rest)) ∙ drop-append_seam (spelled_header names) rest
+    sym (drop_drop (length (spelled_header names)) head_start (front names ++ rest))
+    ∙ drop-append_seam (spelled_header names) rest
 
 pub length_front : (names : List (List ℕ)) → length (front names) ≡ front_size names
 length_front names = omega arith
@@ -102,7 +107,8 @@ abbrev size_in : List ℕ → ℕ
 size_in tail = number_of (take 4 (drop 1 tail))
 
 header_behind : (c : List ℕ)
-    → header_or_place (header_size c) (header_of c) ≡ header_or_place (size_in (drop 1 c)) (take (size_in (drop 1 c)) (drop 5 (drop 1 c)))
+    → header_or_place (header_size c) (header_of c)
+    ≡ header_or_place (size_in (drop 1 c)) (take (size_in (drop 1 c)) (drop 5 (drop 1 c)))
 header_behind c =
     let sized : drop 2 c ≡ drop 1 (drop 1 c) = sym (drop_drop 1 1 c) in
     let headed : drop 6 c ≡ drop 5 (drop 1 c) = sym (drop_drop 5 1 c) in
@@ -121,7 +127,8 @@ pub same_list : (c now : List ℕ) (names : List (List ℕ)) → drop 1 now ≡ 
 same_list c now names same =
     let n = length (spelled_header names) in
     let placed_at : 1 + (5 + n) ≡ front_size names = omega arith in
-    ap (λ (k : ℕ). drop k now) (sym placed_at) ∙ sym (drop_drop (5 + n) 1 now) ∙ ap (drop (5 + n)) same ∙ drop_drop (5 + n) 1 c ∙ ap (λ (k : ℕ). drop k c) placed_at
+    ap (λ (k : ℕ). drop k now) (sym placed_at) ∙ sym (drop_drop (5 + n) 1 now) ∙ ap (drop (5 + n)) same
+    ∙ drop_drop (5 + n) 1 c ∙ ap (λ (k : ℕ). drop k c) placed_at
 
 -- a torn write at the gate leaves the head
 pub head_kept : (b : ℕ) (c now : List ℕ) (names : List (List ℕ)) → IsTornWrite 0 (b ∷ []) c now → IsHead c names

@@ -122,8 +122,10 @@ head_is c headed = elim (cases_eq (version_of c) version) [
   where
     by : version_of c ≡ version → (r : Result (List (List ℕ)) ℕ) → header_or_place (header_size c) (header_of c) ≡ r
         → HeadIs c
-    by same (Ok names) is = Names names (record { version = same; header = is }) (head_known c headed ∙ known_same c same ∙ ap with_some is)
-    by same (Err at) is = Refused (BadJournal at) (head_known c headed ∙ known_same c same ∙ ap with_some is) (λ names head. let good = head.header in absurd (cc))
+    by same (Ok names) is =
+        Names names (record { version = same; header = is }) (head_known c headed ∙ known_same c same ∙ ap with_some is)
+    by same (Err at) is =
+        Refused (BadJournal at) (head_known c headed ∙ known_same c same ∙ ap with_some is) (λ names head. let good = head.header in absurd (cc))
 
 pub head_of : (c : List ℕ) (names : List (List ℕ)) → IsHeaded c → IsHead c names → head_in c ≡ Ok (Some names)
 head_of c names headed head = head_known c headed ∙ known_same c head.version ∙ ap with_some head.header
@@ -143,10 +145,13 @@ journal_opens c entries is = elim (head_cases c) [
     by headed (Names names head there) =
         let list : behind_names names c ≡ Ok entries = sym (ap (λ (h : Heads). behind_head h c) there) ∙ is in
         inr (headed, record { names = names; head = head; opens = list_opens (listed names) (drop (front_size names) c) entries (fault_ok (list_in (listed names) (drop (front_size names) c)) entries list) })
-    by headed (Refused fault there never) = absurd (let bad = sym (ap (λ (h : Heads). behind_head h c) there) ∙ is in cc)
+    by headed (Refused fault there never) =
+        absurd (let bad = sym (ap (λ (h : Heads). behind_head h c) there) ∙ is in cc)
 
 pub journal_is : (c : List ℕ) (entries : List (List FileText)) → OpensJournal c entries → journal_in c ≡ Ok entries
-journal_is c entries (inl headless) = ap (λ (h : Heads). behind_head h c) (head_none c headless.0) ∙ ap (λ (es : List (List FileText)). Ok es) (sym headless.1)
+journal_is c entries (inl headless) =
+    ap (λ (h : Heads). behind_head h c) (head_none c headless.0)
+    ∙ ap (λ (es : List (List FileText)). Ok es) (sym headless.1)
 journal_is c entries (inr (headed, behind)) =
     ap (λ (h : Heads). behind_head h c) (head_of c behind.names headed behind.head)
     ∙ ap with_fault (list_reads (listed behind.names) (drop (front_size behind.names) c) entries behind.opens)
@@ -179,7 +184,8 @@ journal_read c entries (inr (headed, behind)) =
 
 pub journal_begins : (c : List ℕ) (opens reads : List (List FileText)) → OpensJournal c opens → ReadsJournal c reads
     → BeginsSo opens reads
-journal_begins c opens reads (inl headless) second = (reads, ap (λ (es : List (List FileText)). es ++ reads) (sym headless.1))
+journal_begins c opens reads (inl headless) second =
+    (reads, ap (λ (es : List (List FileText)). es ++ reads) (sym headless.1))
 journal_begins c opens reads (inr (headed, behind)) (inl headless) = absurd (not_headless c headed headless.0)
 journal_begins c opens reads (inr (headed, behind)) (inr (may_be, other)) =
     let rule = listed behind.names in
@@ -189,7 +195,8 @@ journal_begins c opens reads (inr (headed, behind)) (inr (may_be, other)) =
 
 pub journal_once : (c : List ℕ) (entries others : List (List FileText)) → OpensJournal c entries → OpensJournal c others
     → others ≡ entries
-journal_once c entries others first second = let both = sym (journal_is c others second) ∙ journal_is c entries first in cc
+journal_once c entries others first second =
+    let both = sym (journal_is c others second) ∙ journal_is c entries first in cc
 
 -- where it isn't broken there is a reading
 pub journal_has_reading : (c : List ℕ) → ¬ BreaksJournal c → (entries : List (List FileText)) × OpensJournal c entries

@@ -71,7 +71,8 @@ pub breaks_list : (rule : Rule) (entries : List (List FileText)) (number place l
     → AllByRecursion (IsAllowed rule) entries → last ≤ most_entries → ends ≤ last_place
     → last ≡ number + length entries → ends ≡ place + length (list_bytes entries)
     → BreaksFrom rule number place (list_bytes entries ++ rest) → BreaksFrom rule last ends rest
-breaks_list rule entries number place last ends rest each few within counted placed broken = by entries broken.0 number place each counted placed broken.1
+breaks_list rule entries number place last ends rest each few within counted placed broken =
+    by entries broken.0 number place each counted placed broken.1
   where
     by : (written read : List (List FileText)) (n p : ℕ) → AllByRecursion (IsAllowed rule) written
         → last ≡ n + length written → ends ≡ p + length (list_bytes written)
@@ -116,7 +117,8 @@ gate_not_broken rule entry number place b more is few within broken = by broken.
   where
     by : (read : List (List FileText))
         → Leads rule (Breaks rule) number place (b ∷ (behind_gate entry ++ 0 ∷ more)) read → ⊥
-    by [] breaks = breaks.never entry (is_whole rule entry is (0 ∷ more) (behind_gate entry ++ 0 ∷ more) refl number place few within)
+    by [] breaks =
+        breaks.never entry (is_whole rule entry is (0 ∷ more) (behind_gate entry ++ 0 ∷ more) refl number place few within)
     by (other ∷ read) leads =
         closed_not_broken rule (number + 1) (place + head_size + length (spelled_on entry)) (0 ∷ more) (record { there = omega arith; gate_is = refl })
         (read, next_gate rule entry is (0 ∷ more) (behind_gate entry ++ 0 ∷ more) refl (λ m q c. Leads rule (Breaks rule) m q c read) number place leads.3)

@@ -138,7 +138,8 @@ module _ (rule : Rule) where
   pub entry_or_place-within : (place size : ℕ) (there : List ℕ) → place + head_size + size ≤ last_place
       → entry_or_place rule place size there ≡ placed rule place (body_in rule size there)
   unfolding entry_or_place
-  entry_or_place-within place size there within = ap (λ (b : Bool). cond b (placed rule place (body_in rule size there)) (Err (rule.late place))) (le-leb (place + head_size + size) last_place within)
+  entry_or_place-within place size there within =
+      ap (λ (b : Bool). cond b (placed rule place (body_in rule size there)) (Err (rule.late place))) (le-leb (place + head_size + size) last_place within)
 
   pub entry_or_place-past : (place size : ℕ) (there : List ℕ) → last_place < place + head_size + size
       → entry_or_place rule place size there ≡ Err (rule.late place)
@@ -150,10 +151,12 @@ module _ (rule : Rule) where
   -- at a gate that isn't open the list ends
   pub reading-shut : (left place : ℕ) (c : List ℕ) → open_length c ≡ None → reading rule left place c ≡ Ok []
   reading-shut zero place c none = ap (past_last rule place) none
-  reading-shut (suc left) place c none = ap (λ (o : Option ℕ). at_gate rule o place c (reading rule left (place + head_size + size_of (drop 1 c)) (rest_of (drop 1 c)))) none
+  reading-shut (suc left) place c none =
+      ap (λ (o : Option ℕ). at_gate rule o place c (reading rule left (place + head_size + size_of (drop 1 c)) (rest_of (drop 1 c)))) none
 
   reading-open : (left place : ℕ) (c : List ℕ) (size : ℕ) → open_length c ≡ Some size
-      → reading rule (suc left) place c ≡ joined (entry_or_place rule place size (take size (drop head_size c))) (followed (take size (drop head_size c))) (reading rule left (place + head_size + size) (drop size (drop head_size c)))
+      → reading rule (suc left) place c
+      ≡ joined (entry_or_place rule place size (take size (drop head_size c))) (followed (take size (drop head_size c))) (reading rule left (place + head_size + size) (drop size (drop head_size c)))
   reading-open left place c size is =
       let tail = open_tail c size is in
       ap (λ (o : Option ℕ). at_gate rule o place c (reading rule left (place + head_size + size_of (drop 1 c)) (rest_of (drop 1 c)))) is
@@ -227,20 +230,27 @@ module _ (rule : Rule) where
   unfolding entry_or_place
   whole_of number place tail entry few_before is =
       let parts = cut_entry (nat_le (place + head_size + size_of tail) last_place) place (body_in rule (size_of tail) (body_of tail)) entry is in
-      record { few = few_before; within = leb-true (place + head_size + size_of tail) last_place parts.0; body = parts.1 }
+      record {
+        few = few_before;
+        within = leb-true (place + head_size + size_of tail) last_place parts.0;
+        body = parts.1;
+      }
 
   -- and the other way round
   pub entry_of_whole : (number place : ℕ) (tail : List ℕ) (entry : List FileText) → IsWhole rule number place tail entry
       → entry_or_place rule place (size_of tail) (body_of tail) ≡ Ok entry
-  entry_of_whole number place tail entry whole = entry_or_place-within place (size_of tail) (body_of tail) whole.within ∙ ap (placed rule place) whole.body
+  entry_of_whole number place tail entry whole =
+      entry_or_place-within place (size_of tail) (body_of tail) whole.within ∙ ap (placed rule place) whole.body
 
   -- what is read from an open gate on, by the bytes behind it
   pub reading-tail : (left place : ℕ) (c : List ℕ) → IsOpenAt c
-      → reading rule (suc left) place c ≡ joined (entry_or_place rule place (size_of (drop 1 c)) (body_of (drop 1 c))) (followed (body_of (drop 1 c))) (reading rule left (place + head_size + size_of (drop 1 c)) (rest_of (drop 1 c)))
+      → reading rule (suc left) place c
+      ≡ joined (entry_or_place rule place (size_of (drop 1 c)) (body_of (drop 1 c))) (followed (body_of (drop 1 c))) (reading rule left (place + head_size + size_of (drop 1 c)) (rest_of (drop 1 c)))
   reading-tail left place c opened = by _ (open_length-bytes c opened.there opened.gate_is)
     where
       by : (size : ℕ) → open_length c ≡ Some size
-          → reading rule (suc left) place c ≡ joined (entry_or_place rule place (size_of (drop 1 c)) (body_of (drop 1 c))) (followed (body_of (drop 1 c))) (reading rule left (place + head_size + size_of (drop 1 c)) (rest_of (drop 1 c)))
+          → reading rule (suc left) place c
+          ≡ joined (entry_or_place rule place (size_of (drop 1 c)) (body_of (drop 1 c))) (followed (body_of (drop 1 c))) (reading rule left (place + head_size + size_of (drop 1 c)) (rest_of (drop 1 c)))
       by size is =
           let tail = open_tail c size is in
           let rest = reading rule left (place + head_size + size_of (drop 1 c)) (rest_of (drop 1 c)) in
@@ -333,7 +343,9 @@ module _ (rule : Rule) where
 
   pub list_adds : (left : ℕ) (journal : List ℕ) (new : List (List FileText)) → left ≡ most_entries
       → Adds (rest_in rule left 0 journal) [] new → list_in rule journal ≡ Ok new
-  list_adds left journal new is adds = sym (list_is left journal is) ∙ sym (rest_is left 0 journal) ∙ adds.1 ∙ ap (λ (es : List (List FileText)). Ok es) (sym adds.2)
+  list_adds left journal new is adds =
+      sym (list_is left journal is) ∙ sym (rest_is left 0 journal) ∙ adds.1
+      ∙ ap (λ (es : List (List FileText)). Ok es) (sym adds.2)
 
   pub list_bad : (left : ℕ) (journal : List ℕ) (at : ℕ) → left ≡ most_entries → rest_in rule left 0 journal ≡ Err at
       → list_in rule journal ≡ Err at
@@ -341,7 +353,8 @@ module _ (rule : Rule) where
 
   opens_at : (left : ℕ) (journal : List ℕ) (entries : List (List FileText)) → left ≡ most_entries
       → list_in rule journal ≡ Ok entries → OpensFrom rule 0 0 journal entries
-  opens_at left journal entries is reads = opens_of left 0 0 journal entries (omega arith) (list_is left journal is ∙ reads)
+  opens_at left journal entries is reads =
+      opens_of left 0 0 journal entries (omega arith) (list_is left journal is ∙ reads)
 
   pub list_opens : (journal : List ℕ) (entries : List (List FileText)) → list_in rule journal ≡ Ok entries
       → OpensFrom rule 0 0 journal entries
@@ -356,7 +369,8 @@ module _ (rule : Rule) where
 
   read_at : (left : ℕ) (journal : List ℕ) (entries : List (List FileText)) → left ≡ most_entries
       → OpensFrom rule 0 0 journal entries → list_in rule journal ≡ Ok entries
-  read_at left journal entries is opens = sym (list_is left journal is) ∙ opens_is left 0 0 journal entries (omega arith) opens
+  read_at left journal entries is opens =
+      sym (list_is left journal is) ∙ opens_is left 0 0 journal entries (omega arith) opens
 
   pub list_reads : (journal : List ℕ) (entries : List (List FileText)) → OpensFrom rule 0 0 journal entries
       → list_in rule journal ≡ Ok entries

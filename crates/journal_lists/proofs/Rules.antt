@@ -38,11 +38,13 @@ place_if false size at read is = let first : 0 ≡ at = cc in omega arith
 
 listed_within : (names : List (List ℕ)) (body : List ℕ) (at : ℕ) → read_listed names body ≡ Fails at → at ≤ length body
 unfolding read_listed
-listed_within names body at is = place_if (followed body) (length body) at (all_of (is_next_of (Some names)) (uncounted body)) is
+listed_within names body at is =
+    place_if (followed body) (length body) at (all_of (is_next_of (Some names)) (uncounted body)) is
 
 pub fails_within : (names : Option (List (List ℕ))) (body : List ℕ) (at : ℕ) → (rule_of names).read body ≡ Fails at
     → at ≤ length body
-fails_within None body at is = let within = plain_within (uncounted body) at is in let sized = length-uncounted body in omega arith
+fails_within None body at is =
+    let within = plain_within (uncounted body) at is in let sized = length-uncounted body in omega arith
 fails_within (Some names) body at is = listed_within names body at is
 
 -- the fault of a body that isn't whole, so many bytes behind the first one that is counted

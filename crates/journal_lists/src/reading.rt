@@ -157,7 +157,8 @@ fn read_entry<D: Disk>(
     ensures goes_on { D.tells disk.old ≡ true
         → IfOk result (λ found. found.goes_on ≡ is_followed (body_at head.now place size (D.seen disk.old journal.now))) }
     ensures bad { D.tells disk.old ≡ true → (at : ℕ) → result ≡ Err (JournalFault.BadJournal at)
-        → entry_or_place (rule_of head.now.names) place size (body_at head.now place size (D.seen disk.old journal.now)) ≡ Err at }
+        → entry_or_place (rule_of head.now.names) place size (body_at head.now place size (D.seen disk.old journal.now))
+        ≡ Err at }
     ensures known { (version : ℕ) → result ≡ Err (JournalFault.UnknownVersion version) → ⊥ }
     ensures entry { IfOk result (λ found. IsEntry found.entry) }
     ensures reads { OnlyReads D.Disk disk.old disk.new }

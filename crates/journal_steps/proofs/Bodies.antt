@@ -11,7 +11,9 @@ length-spelled_file f = omega (arith, length-append f.file (length_bytes (length
 file_short : (f : FileText) → IsEntryFile f → length (spelled_file f) ≤ longest_file
 file_short f is = omega (arith, length-spelled_file f, is.is_name.not_long, is.not_long)
 
-files_short : (files : List FileText) → ((i : ℕ) (d : FileText) → i < length files → IsEntryFile (slice_index_or files i d)) → length (flat_map spelled_file files) ≤ longest_file * length files
+files_short : (files : List FileText)
+    → ((i : ℕ) (d : FileText) → i < length files → IsEntryFile (slice_index_or files i d))
+    → length (flat_map spelled_file files) ≤ longest_file * length files
 files_short [] each = omega arith
 files_short (f ∷ files) each =
     let first = file_short f (each 0 f (omega arith)) in

@@ -11,23 +11,29 @@ use Rattle.journal_codec.specs.declared.files.FileText.{FileText}
 use Rattle.journal_codec.specs.Entry.{IsEntry, names_of, journal_name, journal2_name, begins_with_journal}
 use Rattle.journal_steps.specs.Outcomes.{content_in}
 
-pub cond_some : (b : Bool) (x y : List ℕ) (other : Option (List ℕ)) → cond b (Some x) other ≡ Some y → ((b ≡ true) × (x ≡ y)) ⊎ ((b ≡ false) × (other ≡ Some y))
+pub cond_some : (b : Bool) (x y : List ℕ) (other : Option (List ℕ)) → cond b (Some x) other ≡ Some y
+    → ((b ≡ true) × (x ≡ y)) ⊎ ((b ≡ false) × (other ≡ Some y))
 cond_some true x y other is = inl (refl, cc)
 cond_some false x y other is = inr (refl, is)
 
-pub cond_none : (b : Bool) (x : List ℕ) (other : Option (List ℕ)) → cond b (Some x) other ≡ None → (b ≡ false) × (other ≡ None)
+pub cond_none : (b : Bool) (x : List ℕ) (other : Option (List ℕ)) → cond b (Some x) other ≡ None
+    → (b ≡ false) × (other ≡ None)
 cond_none true x other is = absurd (cc)
 cond_none false x other is = (refl, is)
 
 -- a file that is none of the files has no content
-pub none_from_apart : (entry : List FileText) (other : List ℕ) → ((i : ℕ) (d : FileText) → i < length entry → other ≢ (slice_index_or entry i d).file) → content_in entry other ≡ None
+pub none_from_apart : (entry : List FileText) (other : List ℕ)
+    → ((i : ℕ) (d : FileText) → i < length entry → other ≢ (slice_index_or entry i d).file)
+    → content_in entry other ≡ None
 none_from_apart [] other apart = refl
 none_from_apart (text ∷ texts) other apart =
     let differs : bytes_eq text.file other ≡ false = false_from_ne_true (bytes_eq text.file other) (λ same. apart 0 text (omega arith) (sym ((bytes_eq-Decides text.file other).0 same))) in
-    ap (λ (b : Bool). cond b (Some text.bytes) (content_in texts other)) differs ∙ none_from_apart texts other (λ i d lt. apart (suc i) d (omega arith))
+    ap (λ (b : Bool). cond b (Some text.bytes) (content_in texts other)) differs
+    ∙ none_from_apart texts other (λ i d lt. apart (suc i) d (omega arith))
 
 -- no entry has a content for a file whose name is kept for the journal
-content_in-kept : (entry : List FileText) (file : List ℕ) → IsEntry entry → begins_with_journal file ≡ true → content_in entry file ≡ None
+content_in-kept : (entry : List FileText) (file : List ℕ) → IsEntry entry → begins_with_journal file ≡ true
+    → content_in entry file ≡ None
 content_in-kept entry file is begins = none_from_apart entry file (λ i d lt same.
     let shut = (is.each i d lt).not_journal in
     let begins_too : begins_with_journal (slice_index_or entry i d).file ≡ true = subst (λ n. begins_with_journal n ≡ true) same begins in
@@ -45,7 +51,8 @@ not_less_itself x less =
     cc
 
 -- two files of an entry have two names
-pub names_differ : (entry : List FileText) → IsEntry entry → (i j : ℕ) (d : FileText) → i < j → j < length entry → (slice_index_or entry i d).file ≢ (slice_index_or entry j d).file
+pub names_differ : (entry : List FileText) → IsEntry entry → (i j : ℕ) (d : FileText) → i < j → j < length entry
+    → (slice_index_or entry i d).file ≢ (slice_index_or entry j d).file
 names_differ entry is i j d lt within same =
     let names = names_of entry in
     let sized : length names ≡ length entry = length-map entry (λ f. f.file) in

@@ -23,7 +23,8 @@ unfolding open_length
 open_length-not_open journal not_open =
     when_false (nat_le 5 (length journal)) (gate journal == 1) _ (inr (false_from_ne_true (gate journal == 1) (λ is. not_open (eqb-true (gate journal) 1 is))))
 
-pub open_length-open : (x a b c d : ℕ) (rest : List ℕ) → x ≡ 1 → open_length (x ∷ a ∷ b ∷ c ∷ d ∷ rest) ≡ Some (number_of (a ∷ b ∷ c ∷ d ∷ []))
+pub open_length-open : (x a b c d : ℕ) (rest : List ℕ) → x ≡ 1
+    → open_length (x ∷ a ∷ b ∷ c ∷ d ∷ rest) ≡ Some (number_of (a ∷ b ∷ c ∷ d ∷ []))
 unfolding open_length
 open_length-open x a b c d rest is =
     let long : nat_le 5 (length (x ∷ a ∷ b ∷ c ∷ d ∷ rest)) ≡ true = le-leb 5 (length (x ∷ a ∷ b ∷ c ∷ d ∷ rest)) (omega arith) in
@@ -32,7 +33,8 @@ open_length-open x a b c d rest is =
 
 -- the length that an open journal has
 pub open_length-bytes : (journal : List ℕ) → 5 ≤ length journal → gate journal ≡ 1
-    → open_length journal ≡ Some (number_of (slice_index journal 1 ∷ slice_index journal 2 ∷ slice_index journal 3 ∷ slice_index journal 4 ∷ []))
+    → open_length journal
+    ≡ Some (number_of (slice_index journal 1 ∷ slice_index journal 2 ∷ slice_index journal 3 ∷ slice_index journal 4 ∷ []))
 open_length-bytes (x ∷ a ∷ b ∷ c ∷ d ∷ rest) long is = open_length-open x a b c d rest is
 open_length-bytes [] long is = absurd (omega arith)
 open_length-bytes (x ∷ []) long is = absurd (omega arith)
@@ -40,7 +42,8 @@ open_length-bytes (x ∷ a ∷ []) long is = absurd (omega arith)
 open_length-bytes (x ∷ a ∷ b ∷ []) long is = absurd (omega arith)
 open_length-bytes (x ∷ a ∷ b ∷ c ∷ []) long is = absurd (omega arith)
 
-front_of_five : (x a b c d : ℕ) (rest : List ℕ) → open_length (x ∷ a ∷ b ∷ c ∷ d ∷ []) ≡ open_length (x ∷ a ∷ b ∷ c ∷ d ∷ rest)
+front_of_five : (x a b c d : ℕ) (rest : List ℕ)
+    → open_length (x ∷ a ∷ b ∷ c ∷ d ∷ []) ≡ open_length (x ∷ a ∷ b ∷ c ∷ d ∷ rest)
 front_of_five x a b c d rest = elim (cases_eq x 1) [
   | inl is ↦ open_length-open x a b c d [] is ∙ sym (open_length-open x a b c d rest is)
   | inr differs ↦ open_length-not_open (x ∷ a ∷ b ∷ c ∷ d ∷ []) differs ∙ sym (open_length-not_open (x ∷ a ∷ b ∷ c ∷ d ∷ rest) differs)
@@ -55,7 +58,8 @@ front_of (x ∷ a ∷ b ∷ []) long = absurd (omega arith)
 front_of (x ∷ a ∷ b ∷ c ∷ []) long = absurd (omega arith)
 
 -- the first five bytes tell it
-pub open_length-front : (journal : List ℕ) (n : ℕ) → n ≡ min 5 (length journal) → open_length (take n journal) ≡ open_length journal
+pub open_length-front : (journal : List ℕ) (n : ℕ) → n ≡ min 5 (length journal)
+    → open_length (take n journal) ≡ open_length journal
 open_length-front journal n is = elim (cases_lt (length journal) 5) [
   | inl short ↦ ap open_length (take_all n journal (omega arith))
   | inr long ↦ let five : n ≡ 5 = omega arith in ap (λ (k : ℕ). open_length (take k journal)) five ∙ front_of journal long
@@ -76,7 +80,11 @@ pub IsOpenHead-length : (journal : List ℕ) (size : ℕ) → open_length journa
 unfolding open_length
 IsOpenHead-length journal size is =
     let parts = cond_parts (nat_le 5 (length journal)) (gate journal == 1) (number_of (take 4 (drop 1 journal))) size is in
-    record { not_short = leb-true 5 (length journal) parts.0; gate_is = eqb-true (gate journal) 1 parts.1; size_is = parts.2 }
+    record {
+      not_short = leb-true 5 (length journal) parts.0;
+      gate_is = eqb-true (gate journal) 1 parts.1;
+      size_is = parts.2;
+    }
 
 pub drop_five : (journal : List ℕ) → drop 4 (drop 1 journal) ≡ drop 5 journal
 drop_five [] = refl

@@ -26,7 +26,8 @@ body_or_place (Reads files) size there = if there == size then Ok files else Err
 
 -- the entry that a body of this size spells, or the place where it isn't whole
 unfoldable pub entry_or_place : ℕ → List ℕ → Result (List FileText) ℕ
-entry_or_place size there = if nat_lt longest_body size then Err 0 else body_or_place (read_body there) size (length there)
+entry_or_place size there =
+    if nat_lt longest_body size then Err 0 else body_or_place (read_body there) size (length there)
 
 -- an entry alone
 abbrev pub one_entry : Result (List FileText) ℕ → Result (List (List FileText)) ℕ
@@ -64,7 +65,8 @@ first_entry (Err at) = None
 
 -- the length that stands behind an open gate
 unfoldable pub open_length : List ℕ → Option ℕ
-open_length journal = if nat_le 5 (length journal) && (gate journal == 1) then Some (number_of (take 4 (drop 1 journal))) else None
+open_length journal =
+    if nat_le 5 (length journal) && (gate journal == 1) then Some (number_of (take 4 (drop 1 journal))) else None
 
 -- too short for a length, or the gate is closed
 abbrev pub IsShut : List ℕ → Type 0

@@ -8,7 +8,8 @@ use Rattle.journal_steps.specs.Outcomes.{content_in}
 
 -- a crash might have left what it might have left before the call, and else only images with this property
 abbrev pub LeavesElseOnly : ℕ → (ℕ → Image → Type 0) → (ℕ → Image → Type 0) → (Image → Type 0) → Type 0
-LeavesElseOnly before past since Property = (moment : ℕ) (image : Image) → moment ≤ before → since moment image → past moment image ⊎ Property image
+LeavesElseOnly before past since Property =
+    (moment : ℕ) (image : Image) → moment ≤ before → since moment image → past moment image ⊎ Property image
 
 -- since the call began a crash might have left only images with this property
 pub record LeavesMeanwhile (before : ℕ) (past since : ℕ → Image → Type 0) (Property : Image → Type 0) : Type 0 where

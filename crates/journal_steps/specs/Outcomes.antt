@@ -26,7 +26,8 @@ SameFiles files others = (file : List ℕ) → ¬ IsOwnFile file → files file 
 
 -- these are files that an image stands for: its own, with the entries that its journal reads as
 abbrev pub HasOutcome : Image → Image → Type 0
-HasOutcome image files = (entries : List (List FileText)) × ReadsAs image entries × (SameFiles files (with_entries image entries))
+HasOutcome image files =
+    (entries : List (List FileText)) × ReadsAs image entries × (SameFiles files (with_entries image entries))
 
 -- these files, but for the journal's own
 abbrev pub IsOutcome : Image → Image → Type 0

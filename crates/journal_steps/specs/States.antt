@@ -16,9 +16,11 @@ IsOwnImage leaves image = (file : List ℕ) → IsOwnFile file → leaves file (
 pub record IsCalm (seen : Image) (leaves : List ℕ → List ℕ → Type 0) (files : Image) (doubt : Option (List FileText)) : Type 0 where
   -- each file is as a read gives it, unless an open entry names it
   pub same : (file : List ℕ) → ¬ IsOwnFile file
-      → ((entry : List FileText) → open_entry seen ≡ Some entry → content_in entry file ≡ None) → Only (seen file) (leaves file)
+      → ((entry : List FileText) → open_entry seen ≡ Some entry → content_in entry file ≡ None)
+      → Only (seen file) (leaves file)
   -- the journals that a crash may leave differ in the gate alone, or their gate is closed, or they are short
   pub journal : ((c : List ℕ) → leaves journal_name c → (1 ≤ length c) × (drop 1 c ≡ drop 1 (seen journal_name)))
       ⊎ ((c : List ℕ) → leaves journal_name c → gate c ≡ 0) ⊎ ((c : List ℕ) → leaves journal_name c → length c < 5)
   pub not_broken : (image : Image) → IsOwnImage leaves image → ¬ IsBroken image
-  pub outcomes : (image outcome : Image) → IsImage leaves image → HasOutcome image outcome → IsEither files doubt outcome
+  pub outcomes : (image outcome : Image) → IsImage leaves image → HasOutcome image outcome
+      → IsEither files doubt outcome

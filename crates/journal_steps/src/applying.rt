@@ -13,9 +13,11 @@ use kdb_outside::{Disk, Failed};
 /// then be whole or torn, and no other file changed.
 pub fn put_file<D: Disk>(disk: &mut D, text: &FileText) -> Result<(), Failed>
     ensures durable { D.tells disk.old ≡ true → OnOk result (Only text.now.bytes (D.may_leave disk.new text.now.file)) }
-    ensures others { D.tells disk.old ≡ true → KeepsOtherImages text.now.file (D.may_leave disk.old) (D.may_leave disk.new) }
+    ensures others { D.tells disk.old ≡ true
+        → KeepsOtherImages text.now.file (D.may_leave disk.old) (D.may_leave disk.new) }
     ensures seen { D.tells disk.old ≡ true → KeepsOthers text.now.file (D.seen disk.old) (D.seen disk.new) }
-    ensures time { D.tells disk.old ≡ true → AddsOnly D.Disk disk.old disk.new (KeepsElse text.now.file (D.may_leave disk.old)) }
+    ensures time { D.tells disk.old ≡ true
+        → AddsOnly D.Disk disk.old disk.new (KeepsElse text.now.file (D.may_leave disk.old)) }
     ensures goes { GoesOn D.Disk disk.old disk.new }
     ensures cause { HasCause (D.faults disk.old) (D.faults disk.new) result }
 {

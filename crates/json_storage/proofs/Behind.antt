@@ -16,10 +16,13 @@ use Rattle.model_lines.proofs.SortedKeys.{before_all}
 abbrev pub AllBefore : Name → List (Name × Entry) → Type 0
 AllBefore name es = AllByRecursion (λ (key : Name × Entry). name_cmp key.0 name ≡ Less) es
 
-last-cut : (es : List (Name × Entry)) (i : ℕ) (key : Name × Entry) → length es ≡ i + 1 → Some key ≡ slice_get es i → es ≡ take i es ++ key ∷ []
-last-cut es i key len there = cut-next es i key there ∙ ap (λ rest. take i es ++ key ∷ rest) (drop_all (i + 1) es (omega (arith, len)))
+last-cut : (es : List (Name × Entry)) (i : ℕ) (key : Name × Entry) → length es ≡ i + 1 → Some key ≡ slice_get es i
+    → es ≡ take i es ++ key ∷ []
+last-cut es i key len there =
+    cut-next es i key there ∙ ap (λ rest. take i es ++ key ∷ rest) (drop_all (i + 1) es (omega (arith, len)))
 
-pub behind-last : (es : List (Name × Entry)) (i : ℕ) (key : Name × Entry) (name : Name) → T (is_sorted name_cmp es) → length es ≡ i + 1 → Some key ≡ slice_get es i → name_cmp key.0 name ≡ Less → AllBefore name es
+pub behind-last : (es : List (Name × Entry)) (i : ℕ) (key : Name × Entry) (name : Name) → T (is_sorted name_cmp es)
+    → length es ≡ i + 1 → Some key ≡ slice_get es i → name_cmp key.0 name ≡ Less → AllBefore name es
 behind-last es i key name sorted len there less =
     let cut = last-cut es i key len there in
     let front = before_all (take i es) key [] (subst (λ l. T (is_sorted name_cmp l)) cut sorted) in
@@ -28,8 +31,10 @@ behind-last es i key name sorted len there less =
     (all-weaker (λ (k : Name × Entry). name_cmp k.0 key.0 ≡ Less) (λ (k : Name × Entry). name_cmp k.0 name ≡ Less) (λ k before. name_cmp_total.trans k.0 key.0 name before less) (take i es) front)
     (less, tt))
 
-pub last-behind : (es : List (Name × Entry)) (i : ℕ) (key : Name × Entry) (name : Name) → length es ≡ i + 1 → Some key ≡ slice_get es i → AllBefore name es → name_cmp key.0 name ≡ Less
-last-behind es i key name len there all = (all_back (λ (k : Name × Entry). name_cmp k.0 name ≡ Less) (take i es) (key ∷ []) (subst (AllBefore name) (last-cut es i key len there) all)).0
+pub last-behind : (es : List (Name × Entry)) (i : ℕ) (key : Name × Entry) (name : Name) → length es ≡ i + 1
+    → Some key ≡ slice_get es i → AllBefore name es → name_cmp key.0 name ≡ Less
+last-behind es i key name len there all =
+    (all_back (λ (k : Name × Entry). name_cmp k.0 name ≡ Less) (take i es) (key ∷ []) (subst (AllBefore name) (last-cut es i key len there) all)).0
 
 pub some-there : (es : List (Name × Entry)) (i : ℕ) → i < length es → None ≡ slice_get es i → ⊥
 some-there [] i less none = absurd (omega (arith, less))

@@ -29,13 +29,18 @@ child-parts name at part is = ap (λ (n : Name). n.parts) is
 
 -- ---- elements
 
-pub item-none : (before : List Part) (index : ℕ) (d : Data) (found after : Found) → (IsNamed before (array_part index) → ⊥) → HasAdded (ItemAdds before index d) found after false
+pub item-none : (before : List Part) (index : ℕ) (d : Data) (found after : Found)
+    → (IsNamed before (array_part index) → ⊥) → HasAdded (ItemAdds before index d) found after false
 item-none before index d found after none = λ added more keys adds fill. none adds.is_named
 
-pub item-stops : (before at : List Part) (index : ℕ) (d : Data) (found after other : Found) → at ≡ before ++ array_part index ∷ [] → HasAdded (ValueAdds at d) found after false → HasAdded (ItemAdds before index d) found other false
-item-stops before at index d found after other is fails = λ added more keys adds fill. fails added more keys (subst (λ parts. ValueAdds parts d added) (sym is) adds.value) fill
+pub item-stops : (before at : List Part) (index : ℕ) (d : Data) (found after other : Found)
+    → at ≡ before ++ array_part index ∷ [] → HasAdded (ValueAdds at d) found after false
+    → HasAdded (ItemAdds before index d) found other false
+item-stops before at index d found after other is fails =
+    λ added more keys adds fill. fails added more keys (subst (λ parts. ValueAdds parts d added) (sym is) adds.value) fill
 
-grown : (found after : Found) (added : List Leaf) → leaves_in after.keys ≡ leaves_in found.keys ++ added → length (finite.entries after.keys) ≡ length (finite.entries found.keys) + length added
+grown : (found after : Found) (added : List Leaf) → leaves_in after.keys ≡ leaves_in found.keys ++ added
+    → length (finite.entries after.keys) ≡ length (finite.entries found.keys) + length added
 grown found after added joined =
     let old = length-map (finite.entries found.keys) leaf_of in
     let new = length-map (finite.entries after.keys) leaf_of in
@@ -45,7 +50,10 @@ none-added : (added : List Leaf) → length added ≡ 0 → added ≡ []
 none-added [] e = refl
 none-added (leaf ∷ added) e = absurd (omega (arith, e))
 
-pub item-empty : (before at : List Part) (index : ℕ) (d : Data) (found after other : Found) → at ≡ before ++ array_part index ∷ [] → Joined (ValueAdds at d) found after → length (finite.entries after.keys) ≡ length (finite.entries found.keys) → HasAdded (ItemAdds before index d) found other false
+pub item-empty : (before at : List Part) (index : ℕ) (d : Data) (found after other : Found)
+    → at ≡ before ++ array_part index ∷ [] → Joined (ValueAdds at d) found after
+    → length (finite.entries after.keys) ≡ length (finite.entries found.keys)
+    → HasAdded (ItemAdds before index d) found other false
 item-empty before at index d found after other is j same = λ added more keys adds fill.
     let count = grown found after j.added j.joined in
     let nothing : j.added ≡ [] = none-added j.added (omega (arith, count, same)) in
@@ -55,7 +63,10 @@ some-added : (added : List Leaf) (old new : ℕ) → new ≡ old + length added 
 some-added [] old new count differ = λ e. differ (omega (arith, count))
 some-added (leaf ∷ added) old new count differ = λ e. absurd cc
 
-pub item-joins : (before at : List Part) (index : ℕ) (d : Data) (found after : Found) → at ≡ before ++ array_part index ∷ [] → IsNamed before (array_part index) → Joined (ValueAdds at d) found after → length (finite.entries after.keys) ≢ length (finite.entries found.keys) → HasAdded (ItemAdds before index d) found after true
+pub item-joins : (before at : List Part) (index : ℕ) (d : Data) (found after : Found)
+    → at ≡ before ++ array_part index ∷ [] → IsNamed before (array_part index) → Joined (ValueAdds at d) found after
+    → length (finite.entries after.keys) ≢ length (finite.entries found.keys)
+    → HasAdded (ItemAdds before index d) found after true
 item-joins before at index d found after is named j differ = record {
   added = j.added;
   adds = record { is_named = named; value = subst (λ parts. ValueAdds parts d j.added) is j.adds; some = some-added j.added (length (finite.entries found.keys)) (length (finite.entries after.keys)) (grown found after j.added j.joined) differ };
@@ -65,12 +76,24 @@ item-joins before at index d found after is named j differ = record {
 
 -- ---- members
 
-pub member-unlike : (before : List Part) (part : Part) (d : Data) (found after : Found) → is_array_like part ≡ true → HasAdded (MemberAdds before part d) found after false
-member-unlike before part d found after like = λ added more keys adds fill. let clash = sym like ∙ adds.unlike in absurd cc
+pub member-unlike : (before : List Part) (part : Part) (d : Data) (found after : Found) → is_array_like part ≡ true
+    → HasAdded (MemberAdds before part d) found after false
+member-unlike before part d found after like =
+    λ added more keys adds fill. let clash = sym like ∙ adds.unlike in absurd cc
 
-pub member-none : (before : List Part) (part : Part) (d : Data) (found after : Found) → (IsNamed before part → ⊥) → HasAdded (MemberAdds before part d) found after false
+pub member-none : (before : List Part) (part : Part) (d : Data) (found after : Found) → (IsNamed before part → ⊥)
+    → HasAdded (MemberAdds before part d) found after false
 member-none before part d found after none = λ added more keys adds fill. none adds.is_named
 
-pub member-value : (before at : List Part) (part : Part) (d : Data) (found after : Found) (b : Bool) → at ≡ before ++ part ∷ [] → is_array_like part ≡ false → IsNamed before part → HasAdded (ValueAdds at d) found after b → HasAdded (MemberAdds before part d) found after b
-member-value before at part d found after true is unlike named j = record { added = j.added; adds = record { unlike = unlike; is_named = named; value = subst (λ parts. ValueAdds parts d j.added) is j.adds }; joined = j.joined; sound = j.sound }
-member-value before at part d found after false is unlike named fails = λ added more keys adds fill. fails added more keys (subst (λ parts. ValueAdds parts d added) (sym is) adds.value) fill
+pub member-value : (before at : List Part) (part : Part) (d : Data) (found after : Found) (b : Bool)
+    → at ≡ before ++ part ∷ [] → is_array_like part ≡ false → IsNamed before part
+    → HasAdded (ValueAdds at d) found after b → HasAdded (MemberAdds before part d) found after b
+member-value before at part d found after true is unlike named j =
+    record {
+      added = j.added;
+      adds = record { unlike = unlike; is_named = named; value = subst (λ parts. ValueAdds parts d j.added) is j.adds };
+      joined = j.joined;
+      sound = j.sound;
+    }
+member-value before at part d found after false is unlike named fails =
+    λ added more keys adds fill. fails added more keys (subst (λ parts. ValueAdds parts d added) (sym is) adds.value) fill

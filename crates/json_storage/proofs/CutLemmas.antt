@@ -59,15 +59,20 @@ into-some : (part : Part) (change : Data → Data) (ms : Members) → if_members
 into-some part change no_members = refl
 into-some part change (member name d ms) = by (is_text part name)
   where
-    by : (b : Bool) → if_members (cond b (member part (change d) ms) (member part (change empty) (member name d ms))) ≡ below
+    by : (b : Bool)
+        → if_members (cond b (member part (change d) ms) (member part (change empty) (member name d ms))) ≡ below
     by true = refl
     by false = refl
 
-shape-into : (n : ℕ) (part : Part) (change other : Data → Data) → ((d : Data) → shape n (change d) ≡ other (shape n d)) → (ms : Members) → shapes n (into part change ms) ≡ into part other (shapes n ms)
-shape-into n part change other same no_members = ap (λ d. member part d no_members) (same empty ∙ ap other (shape-empty n))
+shape-into : (n : ℕ) (part : Part) (change other : Data → Data) → ((d : Data) → shape n (change d) ≡ other (shape n d))
+    → (ms : Members) → shapes n (into part change ms) ≡ into part other (shapes n ms)
+shape-into n part change other same no_members =
+    ap (λ d. member part d no_members) (same empty ∙ ap other (shape-empty n))
 shape-into n part change other same (member name d ms) = by (is_text part name)
   where
-    by : (b : Bool) → shapes n (cond b (member part (change d) ms) (member part (change empty) (member name d ms))) ≡ cond b (member part (other (shape n d)) (shapes n ms)) (member part (other empty) (member name (shape n d) (shapes n ms)))
+    by : (b : Bool)
+        → shapes n (cond b (member part (change d) ms) (member part (change empty) (member name d ms)))
+        ≡ cond b (member part (other (shape n d)) (shapes n ms)) (member part (other empty) (member name (shape n d) (shapes n ms)))
     by true = ap (λ e. member part e (shapes n ms)) (same d)
     by false = ap (λ e. member part e (member name (shape n d) (shapes n ms))) (same empty ∙ ap other (shape-empty n))
 
@@ -82,7 +87,8 @@ shape-text zero text (object (member name d ms)) = refl
 shape-text (suc n) text (object no_members) = refl
 shape-text (suc n) text (object (member name d ms)) = refl
 
-shape-leaf : (n : ℕ) (parts : List Part) (text : List ℕ) (d : Data) → shape n (with_leaf parts text d) ≡ shaped n parts (shape n d)
+shape-leaf : (n : ℕ) (parts : List Part) (text : List ℕ) (d : Data)
+    → shape n (with_leaf parts text d) ≡ shaped n parts (shape n d)
 shape-leaf n [] text d = shape-text n text d
 shape-leaf zero (part ∷ parts) text d = into-some part (with_leaf parts text) (members_in d)
 shape-leaf (suc n) (part ∷ parts) text d =
@@ -97,7 +103,8 @@ shape-cut : (n : ℕ) (found : List Leaf) → shape n (tree (map (cut_leaf (suc 
 shape-cut n [] = refl
 shape-cut n (leaf ∷ found) =
     let rest = tree (map (cut_leaf (suc n)) found) in
-    shape-leaf n (take (suc n) leaf.0) leaf.1 rest ∙ shaped-cut n leaf.0 (shape n rest) ∙ ap (shaped n leaf.0) (shape-cut n found) ∙ sym (shape-leaf n leaf.0 leaf.1 (tree found))
+    shape-leaf n (take (suc n) leaf.0) leaf.1 rest ∙ shaped-cut n leaf.0 (shape n rest)
+    ∙ ap (shaped n leaf.0) (shape-cut n found) ∙ sym (shape-leaf n leaf.0 leaf.1 (tree found))
 
 -- ---- what fits
 
@@ -138,5 +145,8 @@ shape-fits (suc n) (part ∷ parts) d few =
     let rest : Fits parts (child part (shape (suc n) d)) ≡ Fits parts (child part d) = ap (Fits parts) (shape-child n part d) ∙ shape-fits n parts (child part d) (omega (arith, few)) in
     λ i. kind i × rest i
 
-pub cut-fits : (n : ℕ) (parts : List Part) (found : List Leaf) → length parts ≤ n → Fits parts (tree (map (cut_leaf (suc n)) found)) ≡ Fits parts (tree found)
-cut-fits n parts found few = sym (shape-fits n parts (tree (map (cut_leaf (suc n)) found)) few) ∙ ap (Fits parts) (shape-cut n found) ∙ shape-fits n parts (tree found) few
+pub cut-fits : (n : ℕ) (parts : List Part) (found : List Leaf) → length parts ≤ n
+    → Fits parts (tree (map (cut_leaf (suc n)) found)) ≡ Fits parts (tree found)
+cut-fits n parts found few =
+    sym (shape-fits n parts (tree (map (cut_leaf (suc n)) found)) few) ∙ ap (Fits parts) (shape-cut n found)
+    ∙ shape-fits n parts (tree found) few

@@ -23,15 +23,18 @@ not-decides false = (λ e. refl, λ e. refl)
 
 either-decides : {P Q : Type 0} (a b : Bool) → Decides a P → Decides b Q → Decides (a || b) (P ⊎ Q)
 either-decides true b p q = (λ e. inl (p.0 refl), λ h. refl)
-either-decides false b p q = (λ e. inr (q.0 e), λ h. elim h [ inl here ↦ absurd (let clash = p.1 here in cc) | inr there ↦ q.1 there ])
+either-decides false b p q =
+    (λ e. inr (q.0 e), λ h. elim h [ inl here ↦ absurd (let clash = p.1 here in cc) | inr there ↦ q.1 there ])
 
 names-decides : (ms : Members) → Decides (are_names ms) (AreNames ms)
 names-decides no_members = (λ e. tt, λ h. refl)
-names-decides (member name d ms) = decided_both (not (is_array_like name)) (are_names ms) (not-decides (is_array_like name)) (names-decides ms)
+names-decides (member name d ms) =
+    decided_both (not (is_array_like name)) (are_names ms) (not-decides (is_array_like name)) (names-decides ms)
 
 items-decides : (index : ℕ) (ms : Members) → Decides (are_items index ms) (AreItems index ms)
 items-decides index no_members = (λ e. tt, λ h. refl)
-items-decides index (member name d ms) = decided_both (is_text name (array_part index)) (are_items (index + 1) ms) (is_text-Decides name (array_part index)) (items-decides (index + 1) ms)
+items-decides index (member name d ms) =
+    decided_both (is_text name (array_part index)) (are_items (index + 1) ms) (is_text-Decides name (array_part index)) (items-decides (index + 1) ms)
 
 kind-decides : (ms : Members) → Decides (are_of_one_kind ms) (AreOfOneKind ms)
 kind-decides ms = either-decides (are_names ms) (are_items 0 ms) (names-decides ms) (items-decides 0 ms)
@@ -69,7 +72,8 @@ no-text-either true ms h = h
 no-text-either false ms h = h
 
 -- an object that keeps something has names of one kind
-keeps : (part : Part) (parts : List Part) (b : Bool) (ms : Members) → HasText (part ∷ parts) (cond b (object ms) null) → (b ≡ true) × HasText parts (child part (object ms))
+keeps : (part : Part) (parts : List Part) (b : Bool) (ms : Members) → HasText (part ∷ parts) (cond b (object ms) null)
+    → (b ≡ true) × HasText parts (child part (object ms))
 keeps part parts true ms h = (refl, h)
 keeps part parts false ms h = absurd (nothing-has parts h)
 

@@ -27,7 +27,8 @@ object-of (array ds) ms e = absurd (none_is_no_some ms e)
 object-of (object other) ms e = ap object (some_is other ms e)
 
 -- the keys that were added are those that the bytes read as
-pub reads-added : (bytes : List ℕ) (ms : Members) (before after : Found) → IsUtf8 bytes → read bytes ≡ Some (object ms) → leaves_in before.keys ≡ [] → Joined (MembersAdd [] ms) before after → Reads bytes after.keys
+pub reads-added : (bytes : List ℕ) (ms : Members) (before after : Found) → IsUtf8 bytes → read bytes ≡ Some (object ms)
+    → leaves_in before.keys ≡ [] → Joined (MembersAdd [] ms) before after → Reads bytes after.keys
 reads-added bytes ms before after utf8 is none j =
     let here = j.adds.here in
     let all : leaves_in after.keys ≡ here = j.joined ∙ ap (λ l. l ++ j.added) none ∙ j.adds.all ∙ under-nothing here in
@@ -44,18 +45,23 @@ reads-added bytes ms before after utf8 is none j =
     })
 
 -- some bytes read as an object alone
-pub bad-unless : (bytes : List ℕ) → bytes ≢ [] → ((keys : KeyMap) → ReadsObject bytes keys → ⊥) → (line : ℕ) → line ≡ 1 → IsBadAt bytes line
+pub bad-unless : (bytes : List ℕ) → bytes ≢ [] → ((keys : KeyMap) → ReadsObject bytes keys → ⊥) → (line : ℕ) → line ≡ 1
+    → IsBadAt bytes line
 bad-unless bytes some none line one = (one, λ keys reads. elim reads [ inl empty ↦ some empty.0 | inr r ↦ none keys r ])
 
-pub bad-added : (bytes : List ℕ) (ms : Members) (before after : Found) → read bytes ≡ Some (object ms) → leaves_in before.keys ≡ [] → HasAdded (MembersAdd [] ms) before after false → (keys : KeyMap) → ReadsObject bytes keys → ⊥
+pub bad-added : (bytes : List ℕ) (ms : Members) (before after : Found) → read bytes ≡ Some (object ms)
+    → leaves_in before.keys ≡ [] → HasAdded (MembersAdd [] ms) before after false → (keys : KeyMap)
+    → ReadsObject bytes keys → ⊥
 bad-added bytes ms before after is none fails keys r =
     let same : r.members ≡ ms = object-is r.members ms (some_is (object r.members) (object ms) (sym r.is_object ∙ is)) in
     let adds : MembersAdd [] ms r.found = subst (λ m. MembersAdd [] m r.found) same (record { here = r.found; named = r.are_named; are = r.are_leaves; all = sym (under-nothing r.found) }) in
     let all : r.found ≡ leaves_in before.keys ++ (r.found ++ []) = sym (append-nil r.found) ∙ ap (λ l. l ++ (r.found ++ [])) (sym none) in
     fails r.found [] keys adds (subst (λ l. Fill l keys) all (record { all = r.all; few = r.few_parts; limited = r.limited }))
 
-pub bad-value : (bytes : List ℕ) (d : Data) → read bytes ≡ Some d → as_object d ≡ None → (keys : KeyMap) → ReadsObject bytes keys → ⊥
-bad-value bytes d is none keys r = none_is_no_some r.members (sym none ∙ ap as_object (some_is d (object r.members) (sym is ∙ r.is_object)))
+pub bad-value : (bytes : List ℕ) (d : Data) → read bytes ≡ Some d → as_object d ≡ None → (keys : KeyMap)
+    → ReadsObject bytes keys → ⊥
+bad-value bytes d is none keys r =
+    none_is_no_some r.members (sym none ∙ ap as_object (some_is d (object r.members) (sym is ∙ r.is_object)))
 
 pub bad-text : (bytes : List ℕ) → (IsUtf8 bytes → read bytes ≡ None) → (keys : KeyMap) → ReadsObject bytes keys → ⊥
 bad-text bytes none keys r = none_is_no_some (object r.members) (sym (none r.utf8) ∙ r.is_object)

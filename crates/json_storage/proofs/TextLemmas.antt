@@ -41,17 +41,23 @@ map-leaves (key ∷ xs) ys = ap (λ rest. leaf_of key ∷ rest) (map-leaves xs y
 weight-of : List (Name × Entry) → ℕ
 weight-of es = sum_by (λ (key : Name × Entry). weight_of_key key.0 key.1) es
 
-put-behind : (name : Name) (entry : Entry) (es : List (Name × Entry)) → AllByRecursion (λ (key : Name × Entry). name_cmp key.0 name ≡ Less) es → put name_cmp name entry es ≡ es ++ (name, entry) ∷ []
+put-behind : (name : Name) (entry : Entry) (es : List (Name × Entry))
+    → AllByRecursion (λ (key : Name × Entry). name_cmp key.0 name ≡ Less) es
+    → put name_cmp name entry es ≡ es ++ (name, entry) ∷ []
 put-behind name entry [] h = refl
 put-behind name entry (key ∷ es) h =
     let greater : name_cmp name key.0 ≡ Greater = name_cmp_total.antisymm name key.0 ∙ ap ordering_reverse h.0 in
-    ap (λ o. by_order o ((name, entry) ∷ key ∷ es) ((key.0, entry) ∷ es) (key ∷ put name_cmp name entry es)) greater ∙ ap (λ rest. key ∷ rest) (put-behind name entry es h.1)
+    ap (λ o. by_order o ((name, entry) ∷ key ∷ es) ((key.0, entry) ∷ es) (key ∷ put name_cmp name entry es)) greater
+    ∙ ap (λ rest. key ∷ rest) (put-behind name entry es h.1)
 
 -- the entries with one more behind them
-pub entries-behind : (keys : KeyMap) (name : Name) (entry : Entry) → IsBehind name keys → finite.entries (finite.insert keys name entry) ≡ finite.entries keys ++ (name, entry) ∷ []
-entries-behind keys name entry behind = finite.entries-insert name_cmp_total keys name entry ∙ put-behind name entry (finite.entries keys) behind
+pub entries-behind : (keys : KeyMap) (name : Name) (entry : Entry) → IsBehind name keys
+    → finite.entries (finite.insert keys name entry) ≡ finite.entries keys ++ (name, entry) ∷ []
+entries-behind keys name entry behind =
+    finite.entries-insert name_cmp_total keys name entry ∙ put-behind name entry (finite.entries keys) behind
 
-pub weight-behind : (keys : KeyMap) (name : Name) (entry : Entry) → IsBehind name keys → weight (finite.insert keys name entry) ≡ weight keys + weight_of_key name entry
+pub weight-behind : (keys : KeyMap) (name : Name) (entry : Entry) → IsBehind name keys
+    → weight (finite.insert keys name entry) ≡ weight keys + weight_of_key name entry
 weight-behind keys name entry behind =
     let f : Name × Entry → ℕ = λ key. weight_of_key key.0 key.1 in
     let all = ap (sum_by f) (entries-behind keys name entry behind) in
@@ -59,8 +65,11 @@ weight-behind keys name entry behind =
 
 -- ---- a text that joins
 
-pub joins : (before after : Found) (name : Name) (text : List ℕ) → IsSound before → name.namespace ≡ Cascading → IsName name → IsUtf8 text → length name.parts ≤ most_parts → length text ≤ longest_value → IsBehind name before.keys
-    → after.keys ≡ finite.insert before.keys name (plain_entry text) → after.weight ≡ before.weight + weight_of_key name (plain_entry text) → after.weight ≤ heaviest_map
+pub joins : (before after : Found) (name : Name) (text : List ℕ) → IsSound before → name.namespace ≡ Cascading
+    → IsName name → IsUtf8 text → length name.parts ≤ most_parts → length text ≤ longest_value
+    → IsBehind name before.keys
+    → after.keys ≡ finite.insert before.keys name (plain_entry text)
+    → after.weight ≡ before.weight + weight_of_key name (plain_entry text) → after.weight ≤ heaviest_map
     → HasAdded (λ added. added ≡ (name.parts, text) ∷ []) before after true
 joins before after name text sound cascading is_name utf8 few short behind is weighed light =
     let leaf : Leaf = (name.parts, text) in
@@ -97,7 +106,9 @@ record Would (before : Found) (name : Name) (text : List ℕ) (keys : KeyMap) : 
   behind : IsBehind name before.keys
   light : before.weight + weight_of_key name (plain_entry text) ≤ heaviest_map
 
-would : (before : Found) (name : Name) (text : List ℕ) → IsSound before → name.namespace ≡ Cascading → (more : List Leaf) (keys : KeyMap) → Fill (leaves_in before.keys ++ (name.parts, text) ∷ more) keys → Would before name text keys
+would : (before : Found) (name : Name) (text : List ℕ) → IsSound before → name.namespace ≡ Cascading
+    → (more : List Leaf) (keys : KeyMap) → Fill (leaves_in before.keys ++ (name.parts, text) ∷ more) keys
+    → Would before name text keys
 would before name text sound cascading more keys fill =
     let leaf : Leaf = (name.parts, text) in
     let f : Name × Entry → ℕ = λ key. weight_of_key key.0 key.1 in
@@ -115,7 +126,8 @@ would before name text sound cascading more keys fill =
       light = omega (arith, sum, sum_by-append f old ((name, plain_entry text) ∷ map key_of more), sum_by-cons f (name, plain_entry text) (map key_of more), fill.limited.light, weighs);
     }
 
-pub cant : (before after : Found) (name : Name) (text : List ℕ) → IsSound before → name.namespace ≡ Cascading → ((few : length name.parts ≤ most_parts) → length text ≤ longest_value → IsBehind name before.keys → before.weight + weight_of_key name (plain_entry text) ≤ heaviest_map → ⊥)
+pub cant : (before after : Found) (name : Name) (text : List ℕ) → IsSound before → name.namespace ≡ Cascading
+    → ((few : length name.parts ≤ most_parts) → length text ≤ longest_value → IsBehind name before.keys → before.weight + weight_of_key name (plain_entry text) ≤ heaviest_map → ⊥)
     → HasAdded (λ added. added ≡ (name.parts, text) ∷ []) before after false
 cant before after name text sound cascading fails = λ added more keys is fill.
     let w = would before name text sound cascading more keys (subst (λ l. Fill (leaves_in before.keys ++ (l ++ more)) keys) is fill) in

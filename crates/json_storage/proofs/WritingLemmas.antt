@@ -27,14 +27,20 @@ use Rattle.json_storage.proofs.CutLemmas.{cut-fits}
 
 -- ---- which keys can be held
 
-text-fits : (parts : List Part) (keys : KeyMap) → length parts ≤ most_parts → HasText parts (kept (tree (cut_leaves 0 keys))) → Fits parts (tree_of keys)
-text-fits parts keys few h = subst (λ X. X) (cut-fits 100 parts (map leaf_of (finite.entries keys)) few) (fits-kept parts (tree (cut_leaves 0 keys)) h)
+text-fits : (parts : List Part) (keys : KeyMap) → length parts ≤ most_parts
+    → HasText parts (kept (tree (cut_leaves 0 keys))) → Fits parts (tree_of keys)
+text-fits parts keys few h =
+    subst (λ X. X) (cut-fits 100 parts (map leaf_of (finite.entries keys)) few) (fits-kept parts (tree (cut_leaves 0 keys)) h)
 
-fits-text : (parts : List Part) (keys : KeyMap) → length parts ≤ most_parts → Fits parts (tree_of keys) → HasText parts (kept (tree (cut_leaves 0 keys)))
-fits-text parts keys few h = kept-fits parts (tree (cut_leaves 0 keys)) (subst (λ X. X) (sym (cut-fits 100 parts (map leaf_of (finite.entries keys)) few)) h)
+fits-text : (parts : List Part) (keys : KeyMap) → length parts ≤ most_parts → Fits parts (tree_of keys)
+    → HasText parts (kept (tree (cut_leaves 0 keys)))
+fits-text parts keys few h =
+    kept-fits parts (tree (cut_leaves 0 keys)) (subst (λ X. X) (sym (cut-fits 100 parts (map leaf_of (finite.entries keys)) few)) h)
 
 -- two tests tell of a key whether it can be held: by itself, and by a text at its parts
-pub key-decides : (stands has : Bool) (keys : KeyMap) (name : Name) (entry : Entry) (whole : Data) (end : ℕ) → end ≡ length name.parts → whole ≡ kept (tree (cut_leaves 0 keys)) → Decides stands (CanStand name entry) → Decides has (HasText (between 0 end name.parts) whole)
+pub key-decides : (stands has : Bool) (keys : KeyMap) (name : Name) (entry : Entry) (whole : Data) (end : ℕ)
+    → end ≡ length name.parts → whole ≡ kept (tree (cut_leaves 0 keys)) → Decides stands (CanStand name entry)
+    → Decides has (HasText (between 0 end name.parts) whole)
     → Decides (stands && has) (IsJsonKey keys name entry)
 key-decides stands has keys name entry whole end ends is p q =
     let parts_are : between 0 end name.parts ≡ name.parts = take-all name.parts end (omega (arith, ends)) in
@@ -64,14 +70,17 @@ like-not : (b : Bool) → b ≡ false → not b ≡ true
 like-not true e = absurd cc
 like-not false e = refl
 
-pub stands-decides : (name : Name) (entry : Entry) (part : Part) (like : Bool) → like ≡ is_array_like part → Some part ≡ slice_get name.parts 0 → length name.parts ≤ most_parts → entry.meta ≡ finite.empty → Decides (not like) (CanStand name entry)
+pub stands-decides : (name : Name) (entry : Entry) (part : Part) (like : Bool) → like ≡ is_array_like part
+    → Some part ≡ slice_get name.parts 0 → length name.parts ≤ most_parts → entry.meta ≡ finite.empty
+    → Decides (not like) (CanStand name entry)
 stands-decides name entry part like tells is few no_meta = (
   λ e. record { no_meta = no_meta; some_part = some-parts name.parts part is; few_parts = few; is_member = first-is name.parts part is ∙ sym tells ∙ not-like like e },
   λ h. like-not like (tells ∙ sym (first-is name.parts part is) ∙ h.is_member),
 )
 
 -- whether a key has metadata
-pub meta-decides : (entry : Entry) (b : Bool) → b ≡ (length (finite.entries entry.meta) == 0) → Decides b (entry.meta ≡ finite.empty)
+pub meta-decides : (entry : Entry) (b : Bool) → b ≡ (length (finite.entries entry.meta) == 0)
+    → Decides b (entry.meta ≡ finite.empty)
 meta-decides entry b tells = (
   λ e. finite.empty_of_len entry.meta (finite.len-entries entry.meta ∙ eqb-true (length (finite.entries entry.meta)) 0 (sym tells ∙ e)),
   λ none. tells ∙ ap (λ (meta : Meta). length (finite.entries meta) == 0) none ∙ ap (λ (items : List (List ℕ × List ℕ)). length items == 0) (entries-empty text_cmp (List ℕ)),
@@ -79,9 +88,12 @@ meta-decides entry b tells = (
 
 -- ---- the text
 
-few-uncut : (es : List (Name × Entry)) (keys : KeyMap) → AllByRecursion (λ (key : Name × Entry). IsJsonKey keys key.0 key.1) es → map (cut_leaf 101) (map leaf_of es) ≡ map leaf_of es
+few-uncut : (es : List (Name × Entry)) (keys : KeyMap)
+    → AllByRecursion (λ (key : Name × Entry). IsJsonKey keys key.0 key.1) es
+    → map (cut_leaf 101) (map leaf_of es) ≡ map leaf_of es
 few-uncut [] keys h = refl
-few-uncut (key ∷ es) keys h = ap₂ (λ parts (more : List Leaf). (parts, key.1.value) ∷ more) (take-all key.0.parts 101 (omega (arith, h.0.few_parts))) (few-uncut es keys h.1)
+few-uncut (key ∷ es) keys h =
+    ap₂ (λ parts (more : List Leaf). (parts, key.1.value) ∷ more) (take-all key.0.parts 101 (omega (arith, h.0.few_parts))) (few-uncut es keys h.1)
 
 -- where all keys can be held, nothing was cut off
 pub uncut : (keys : KeyMap) → IsStorable keys → tree (cut_leaves 0 keys) ≡ tree_of keys
@@ -118,23 +130,30 @@ members-off (string s) e = refl
 members-off (array ds) e = refl
 members-off (object ms) e = e
 
-into-off : (part : Part) (change : Data → Data) → ((d : Data) → has_float d ≡ false → has_float (change d) ≡ false) → (ms : Members) → members_have_float ms ≡ false → members_have_float (into part change ms) ≡ false
+into-off : (part : Part) (change : Data → Data) → ((d : Data) → has_float d ≡ false → has_float (change d) ≡ false)
+    → (ms : Members) → members_have_float ms ≡ false → members_have_float (into part change ms) ≡ false
 into-off part change off no_members e = both-off (has_float (change empty)) false (off empty refl) refl
 into-off part change off (member name d ms) e = by (is_text part name)
   where
-    by : (b : Bool) → members_have_float (cond b (member part (change d) ms) (member part (change empty) (member name d ms))) ≡ false
-    by true = both-off (has_float (change d)) (members_have_float ms) (off d (left-off (has_float d) (members_have_float ms) e)) (right-off (has_float d) (members_have_float ms) e)
+    by : (b : Bool)
+        → members_have_float (cond b (member part (change d) ms) (member part (change empty) (member name d ms)))
+        ≡ false
+    by true =
+        both-off (has_float (change d)) (members_have_float ms) (off d (left-off (has_float d) (members_have_float ms) e)) (right-off (has_float d) (members_have_float ms) e)
     by false = both-off (has_float (change empty)) (members_have_float (member name d ms)) (off empty refl) e
 
-leaf-off : (parts : List Part) (text : List ℕ) (d : Data) → has_float d ≡ false → has_float (with_leaf parts text d) ≡ false
+leaf-off : (parts : List Part) (text : List ℕ) (d : Data) → has_float d ≡ false
+    → has_float (with_leaf parts text d) ≡ false
 leaf-off [] text d e = text-off text d e
-leaf-off (part ∷ parts) text d e = into-off part (with_leaf parts text) (leaf-off parts text) (members_in d) (members-off d e)
+leaf-off (part ∷ parts) text d e =
+    into-off part (with_leaf parts text) (leaf-off parts text) (members_in d) (members-off d e)
 
 pub tree-off : (found : List Leaf) → has_float (tree found) ≡ false
 tree-off [] = refl
 tree-off (leaf ∷ found) = leaf-off leaf.0 leaf.1 (tree found) (tree-off found)
 
-either-off : (b : Bool) (ds : Items) (ms : Members) → items_have_float ds ≡ false → members_have_float ms ≡ false → has_float (cond b (array ds) (object ms)) ≡ false
+either-off : (b : Bool) (ds : Items) (ms : Members) → items_have_float ds ≡ false → members_have_float ms ≡ false
+    → has_float (cond b (array ds) (object ms)) ≡ false
 either-off true ds ms p q = p
 either-off false ds ms p q = q
 
@@ -145,12 +164,15 @@ mutual
   arrays-off (number n) e = e
   arrays-off (string text) e = e
   arrays-off (array ds) e = e
-  arrays-off (object ms) e = either-off (begin_as_items ms) (elements ms) (members_with_arrays ms) (elements-off ms e) (names-off ms e)
+  arrays-off (object ms) e =
+      either-off (begin_as_items ms) (elements ms) (members_with_arrays ms) (elements-off ms e) (names-off ms e)
 
   elements-off : (ms : Members) → members_have_float ms ≡ false → items_have_float (elements ms) ≡ false
   elements-off no_members e = refl
-  elements-off (member name d ms) e = both-off (has_float (with_arrays d)) (items_have_float (elements ms)) (arrays-off d (left-off (has_float d) (members_have_float ms) e)) (elements-off ms (right-off (has_float d) (members_have_float ms) e))
+  elements-off (member name d ms) e =
+      both-off (has_float (with_arrays d)) (items_have_float (elements ms)) (arrays-off d (left-off (has_float d) (members_have_float ms) e)) (elements-off ms (right-off (has_float d) (members_have_float ms) e))
 
   names-off : (ms : Members) → members_have_float ms ≡ false → members_have_float (members_with_arrays ms) ≡ false
   names-off no_members e = refl
-  names-off (member name d ms) e = both-off (has_float (with_arrays d)) (members_have_float (members_with_arrays ms)) (arrays-off d (left-off (has_float d) (members_have_float ms) e)) (names-off ms (right-off (has_float d) (members_have_float ms) e))
+  names-off (member name d ms) e =
+      both-off (has_float (with_arrays d)) (members_have_float (members_with_arrays ms)) (arrays-off d (left-off (has_float d) (members_have_float ms) e)) (names-off ms (right-off (has_float d) (members_have_float ms) e))

@@ -36,4 +36,5 @@ pub record Joined (Adds : List Leaf → Type 0) (before after : Found) : Type 0 
 -- map of a file
 abbrev pub HasAdded : (List Leaf → Type 0) → Found → Found → Bool → Type 0
 HasAdded Adds before after true = Joined Adds before after
-HasAdded Adds before after false = (added more : List Leaf) (keys : KeyMap) → Adds added → Fill (leaves_in before.keys ++ (added ++ more)) keys → ⊥
+HasAdded Adds before after false =
+    (added more : List Leaf) (keys : KeyMap) → Adds added → Fill (leaves_in before.keys ++ (added ++ more)) keys → ⊥

@@ -48,7 +48,8 @@ IsBefore part (member name d ms) = text_cmp part name ≡ Less
 -- the first member was taken out where it has a name, and this is its value; else all are there, and this is an empty
 -- object
 abbrev pub TakesFirst : Part → Members → Members → Data → Type 0
-TakesFirst part before after d = ((before ≡ member part d after) × IsBefore part after) ⊎ (BeginsOther part before × (after ≡ before) × (d ≡ empty))
+TakesFirst part before after d =
+    ((before ≡ member part d after) × IsBefore part after) ⊎ (BeginsOther part before × (after ≡ before) × (d ≡ empty))
 
 -- a part stands before those of all members, or is that of the first, in whose value what follows goes on
 abbrev pub LeadsFirst : Part → (Data → Type 0) → Members → Type 0

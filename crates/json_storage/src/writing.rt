@@ -60,7 +60,8 @@ fn test_each(keys: &KeySet, whole: &Value) -> Result<(), WriteRefusal>
 
 /// Whether a file can hold a key, by what the object of all keys keeps.
 fn is_json_key(whole: &Value, name: &KeyName, entry: &Entry) -> bool
-    ensures { (keys : KeyMap) → view whole.now ≡ keeps (tree (cut_leaves 0 keys)) → Decides result (IsJsonKey keys name.now (entry_of entry.now)) }
+    ensures { (keys : KeyMap) → view whole.now ≡ keeps (tree (cut_leaves 0 keys))
+        → Decides result (IsJsonKey keys name.now (entry_of entry.now)) }
 {
     if !can_stand(name, entry) {
         return false;

@@ -14,7 +14,8 @@ none-from None test = refl
 none-from (Some it) test = absurd cc
 
 -- a test that all numbers of a range pass
-all-at : (p : ℕ → Bool) (from many n : ℕ) → list_all p (range_with_len from many) ≡ true → from ≤ n → n < from + many → p n ≡ true
+all-at : (p : ℕ → Bool) (from many n : ℕ) → list_all p (range_with_len from many) ≡ true → from ≤ n → n < from + many
+    → p n ≡ true
 all-at p from many n all least most =
     let within : n - from < many = omega arith in
     let place : get_or (range_with_len from many) (n - from) 0 ≡ n = get_or-range_with_len from many (n - from) 0 within ∙ omega arith in
@@ -32,13 +33,16 @@ sessions-fit : list_all session_fits (range_with_len 1 sessions) ≡ true
 unfolding session_fits digits
 sessions-fit = refl
 
-pub session-fits : (session : ℕ) → 1 ≤ session → session ≤ sessions → child_refusal all_keys (codes "s" ++ decimal session) ≡ None
+pub session-fits : (session : ℕ) → 1 ≤ session → session ≤ sessions
+    → child_refusal all_keys (codes "s" ++ decimal session) ≡ None
 unfolding session_fits
-session-fits session first last = none-from (child_refusal all_keys (codes "s" ++ decimal session)) (all-at session_fits 1 sessions session sessions-fit first (omega arith))
+session-fits session first last =
+    none-from (child_refusal all_keys (codes "s" ++ decimal session)) (all-at session_fits 1 sessions session sessions-fit first (omega arith))
 
 -- and behind it the part of each of its keys
 key_fits : ℕ → ℕ → Bool
-key_fits session place = is_none (child_refusal (child_of all_keys (codes "s" ++ decimal session)) (codes "k" ++ decimal place))
+key_fits session place =
+    is_none (child_refusal (child_of all_keys (codes "s" ++ decimal session)) (codes "k" ++ decimal place))
 
 row_fits : ℕ → Bool
 row_fits session = list_all (key_fits session) (range_with_len 0 keys_of_session)
@@ -47,7 +51,8 @@ keys-fit : list_all row_fits (range_with_len 1 sessions) ≡ true
 unfolding key_fits row_fits digits
 keys-fit = refl
 
-pub key-fits : (session place : ℕ) → 1 ≤ session → session ≤ sessions → place < keys_of_session → child_refusal (child_of all_keys (codes "s" ++ decimal session)) (codes "k" ++ decimal place) ≡ None
+pub key-fits : (session place : ℕ) → 1 ≤ session → session ≤ sessions → place < keys_of_session
+    → child_refusal (child_of all_keys (codes "s" ++ decimal session)) (codes "k" ++ decimal place) ≡ None
 unfolding key_fits row_fits
 key-fits session place first last within =
     none-from (child_refusal (child_of all_keys (codes "s" ++ decimal session)) (codes "k" ++ decimal place)) (all-at (key_fits session) 0 keys_of_session place (all-at row_fits 1 sessions session keys-fit first (omega arith)) (omega arith) (omega arith))

@@ -28,7 +28,11 @@ user_root = record { namespace = User; parts = [] }
 
 -- a session's key, by its place among them
 abbrev pub key_at : ℕ → ℕ → Name
-key_at session place = record { namespace = User; parts = codes "gen" ∷ (codes "s" ++ decimal session) ∷ (codes "k" ++ decimal place) ∷ [] }
+key_at session place =
+    record {
+      namespace = User;
+      parts = codes "gen" ∷ (codes "s" ++ decimal session) ∷ (codes "k" ++ decimal place) ∷ [];
+    }
 
 -- the one that it writes in a round
 abbrev pub key_of : ℕ → ℕ → Name
@@ -40,7 +44,8 @@ tries_of rounds = sessions * rounds + 1
 
 -- in a round a session writes its number, as often as there were rounds, and merges
 abbrev pub round_of : ℕ → ℕ → ℕ → List Step
-round_of rounds session round = Put (key_of session round) (decimal (round * session)) ∷ Merge user_root Our (tries_of rounds) ∷ []
+round_of rounds session round =
+    Put (key_of session round) (decimal (round * session)) ∷ Merge user_root Our (tries_of rounds) ∷ []
 
 -- a session gets all keys, and then goes through its rounds
 abbrev pub steps_of : ℕ → ℕ → List Step
@@ -51,4 +56,5 @@ session_of rounds session = record { session = session; steps = steps_of rounds 
 
 -- the sessions do so beside each other, in one phase
 abbrev pub gen_script : ℕ → Script
-gen_script rounds = record { proc = []; phases = record { sessions = map (session_of rounds) (range_with_len 1 sessions) } ∷ [] }
+gen_script rounds =
+    record { proc = []; phases = record { sessions = map (session_of rounds) (range_with_len 1 sessions) } ∷ [] }

@@ -9,7 +9,8 @@ ghost use Rattle.model_names.specs.declared.namespaces.Namespace.TheVariants.{Pr
 /// In each phase of a generated script the sessions ascend, from 1 to 32, and the keys of handles are in `proc`:
 /// there are none.
 pub fn a_generated_script_can_be_played()
-    ensures ordered { (rounds : ℕ) → All (λ (phase : phases.Phase). AreAscending phase.sessions) (gen_script rounds).phases }
+    ensures ordered { (rounds : ℕ)
+        → All (λ (phase : phases.Phase). AreAscending phase.sessions) (gen_script rounds).phases }
     ensures procs { (rounds : ℕ) → All (λ (line : keys.ProcLine). line.key.namespace ≡ Proc) (gen_script rounds).proc }
 {}
 
@@ -17,6 +18,8 @@ pub fn a_generated_script_can_be_played()
 /// last ten rounds are those whose values stay.
 pub fn a_key_is_written_by_one_session_in_every_tenth_round()
     ensures again { (session round : ℕ) → key_of session (round + keys_of_session) ≡ key_of session round }
-    ensures between { (session round later : ℕ) → round < later → later < round + keys_of_session → key_of session later ≢ key_of session round }
-    ensures apart { (session other round later : ℕ) → session ≤ sessions → other ≤ sessions → session ≢ other → key_of session round ≢ key_of other later }
+    ensures between { (session round later : ℕ) → round < later → later < round + keys_of_session
+        → key_of session later ≢ key_of session round }
+    ensures apart { (session other round later : ℕ) → session ≤ sessions → other ≤ sessions → session ≢ other
+        → key_of session round ≢ key_of other later }
 {}

@@ -26,8 +26,15 @@ module _ (formats : Formats) (files : List MountedFile) (earlier later : List Co
   is_longer : IsRecord (store_at files) (earlier ++ begins.0) number (front_in rec) rec
   is_longer = subst (λ (l : List Commit). IsRecord (store_at files) l number (front_in rec) rec) (sym begins.1) is
 
-  same_set : prepared (points_of (store_at files)) handle before parent keys ≡ prepared (points_of (store_at files)) number rec parent keys
-  same_set = accepted_record (store_at files) earlier begins.0 number handle (front_in before) (front_in rec) before rec parent keys was is_longer accepted
+  same_set : prepared (points_of (store_at files)) handle before parent keys
+      ≡ prepared (points_of (store_at files)) number rec parent keys
+  same_set =
+      accepted_record (store_at files) earlier begins.0 number handle (front_in before) (front_in rec) before rec parent keys was is_longer accepted
 
   pub still_prepared : IsPrepared formats files number rec set
-  still_prepared = record { parent = parent; keys = keys; made = record { is = made.is ∙ same_set; early = made.early; wanted = made.wanted; texts = made.texts } }
+  still_prepared =
+      record {
+        parent = parent;
+        keys = keys;
+        made = record { is = made.is ∙ same_set; early = made.early; wanted = made.wanted; texts = made.texts };
+      }

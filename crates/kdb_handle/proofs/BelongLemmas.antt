@@ -62,10 +62,14 @@ module _ (formats : Formats) {D P : Type 0} (g : Ghosts D) (code : Coded D) (ref
 
   -- what the record of the handle makes of a history
   abbrev set_in : List Commit → sets.Prepared
-  set_in found = sets.set_of (store_at files) found (handle_of rec) (front_in (record_of rec)) may.prepared.parent may.prepared.keys
+  set_in found =
+      sets.set_of (store_at files) found (handle_of rec) (front_in (record_of rec)) may.prepared.parent may.prepared.keys
 
-  set_is : prepared_of set ≡ prepared (points_of (store_at files)) (handle_of rec) (model.record_of (store_at files) history (handle_of rec) (front_in (record_of rec))) may.prepared.parent may.prepared.keys
-  set_is = may.prepared.made.is ∙ ap (λ (f : model.Record). prepared (points_of (store_at files)) (handle_of rec) f may.prepared.parent may.prepared.keys) (record-whole (store_at files) history (handle_of rec) (front_in (record_of rec)) (record_of rec) may.keeps)
+  set_is : prepared_of set
+      ≡ prepared (points_of (store_at files)) (handle_of rec) (model.record_of (store_at files) history (handle_of rec) (front_in (record_of rec))) may.prepared.parent may.prepared.keys
+  set_is =
+      may.prepared.made.is
+      ∙ ap (λ (f : model.Record). prepared (points_of (store_at files)) (handle_of rec) f may.prepared.parent may.prepared.keys) (record-whole (store_at files) history (handle_of rec) (front_in (record_of rec)) (record_of rec) may.keeps)
 
   pub stands_in : StandsIn formats (store_at files) core records known world
   stands_in = record {
@@ -91,4 +95,5 @@ module _ (formats : Formats) {D P : Type 0} (g : Ghosts D) (code : Coded D) (ref
       may.prepared.made
 
   pub is_ready : IsReady formats files core rec set
-  is_ready = record { procs = λ r. no_keys; records = records; made = known; world = world; number = 0; belongs = belongs_in }
+  is_ready =
+      record { procs = λ r. no_keys; records = records; made = known; world = world; number = 0; belongs = belongs_in }

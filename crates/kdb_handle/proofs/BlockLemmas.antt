@@ -45,30 +45,40 @@ abbrev number_in : Late → ℕ
 number_in (late.Conflict m by) = by
 number_in other = 0
 
-pub blocked_at : (store : Store) (history : List Commit) (set : Set) (mounts : List ℕ) (m by : ℕ) → first_some (conflict_at store history set) mounts ≡ Some (late.Conflict m by) → blocking store history set m ≡ Some by
+pub blocked_at : (store : Store) (history : List Commit) (set : Set) (mounts : List ℕ) (m by : ℕ)
+    → first_some (conflict_at store history set) mounts ≡ Some (late.Conflict m by)
+    → blocking store history set m ≡ Some by
 blocked_at store history set [] m by e = absurd cc
-blocked_at store history set (n ∷ mounts) m by e = at_mount (blocking store history set n) refl (blocked_at store history set mounts m by) e
+blocked_at store history set (n ∷ mounts) m by e =
+    at_mount (blocking store history set n) refl (blocked_at store history set mounts m by) e
   where
-    at_mount : (o : Option ℕ) → blocking store history set n ≡ o → (first_some (conflict_at store history set) mounts ≡ Some (late.Conflict m by) → blocking store history set m ≡ Some by)
-        → option_or (option_map (late.Conflict n) o) (first_some (conflict_at store history set) mounts) ≡ Some (late.Conflict m by) → blocking store history set m ≡ Some by
+    at_mount : (o : Option ℕ) → blocking store history set n ≡ o
+        → (first_some (conflict_at store history set) mounts ≡ Some (late.Conflict m by) → blocking store history set m ≡ Some by)
+        → option_or (option_map (late.Conflict n) o) (first_some (conflict_at store history set) mounts)
+        ≡ Some (late.Conflict m by)
+        → blocking store history set m ≡ Some by
     at_mount None is later rest = later rest
     at_mount (Some c) is later here =
         let one = some_is (late.Conflict n c) (late.Conflict m by) here in
         ap (blocking store history set) (sym (ap mount_in one)) ∙ is ∙ ap Some (ap number_in one)
 
 -- the front that a prepared set has of a mount is its record's
-pub own_front : (mounts : List ℕ) (rec : Record) (m front : ℕ) → front_in (only mounts rec) m ≡ Some front → front_in rec m ≡ Some front
+pub own_front : (mounts : List ℕ) (rec : Record) (m front : ℕ) → front_in (only mounts rec) m ≡ Some front
+    → front_in rec m ≡ Some front
 own_front mounts rec m front is = by (is_among mounts m) is
   where
-    by : (b : Bool) → option_map (λ (fetched : Fetched). fetched.front) (cond b (rec.fetched m) None) ≡ Some front → front_in rec m ≡ Some front
+    by : (b : Bool) → option_map (λ (fetched : Fetched). fetched.front) (cond b (rec.fetched m) None) ≡ Some front
+        → front_in rec m ≡ Some front
     by true e = e
     by false e = absurd cc
 
 -- a front that a set has of a mount is of an involved one
-among_front : (mounts : List ℕ) (rec : Record) (m front : ℕ) → front_in (only mounts rec) m ≡ Some front → is_among mounts m ≡ true
+among_front : (mounts : List ℕ) (rec : Record) (m front : ℕ) → front_in (only mounts rec) m ≡ Some front
+    → is_among mounts m ≡ true
 among_front mounts rec m front is = by (is_among mounts m) is
   where
-    by : (b : Bool) → option_map (λ (fetched : Fetched). fetched.front) (cond b (rec.fetched m) None) ≡ Some front → b ≡ true
+    by : (b : Bool) → option_map (λ (fetched : Fetched). fetched.front) (cond b (rec.fetched m) None) ≡ Some front
+        → b ≡ true
     by true e = refl
     by false e = absurd cc
 
@@ -77,7 +87,8 @@ abbrev pub SeesTo : List ℕ → ℕ → Record → Type 0
 SeesTo mounts n rec = (m front : ℕ) → is_among mounts m ≡ true → front_in rec m ≡ Some front → n ≤ front
 
 -- a record that sees these mounts anew
-pub sees-keeping : (mounts : List ℕ) (front : ℕ) (kept : ℕ → KeyMap) (rec : Record) → SeesTo mounts front (keeping mounts front kept rec)
+pub sees-keeping : (mounts : List ℕ) (front : ℕ) (kept : ℕ → KeyMap) (rec : Record)
+    → SeesTo mounts front (keeping mounts front kept rec)
 sees-keeping mounts front kept rec m other among is =
     let here : front_in (keeping mounts front kept rec) m ≡ Some front = ap (λ (b : Bool). option_map (λ (f : Fetched). f.front) (cond b (Some (record { front = front; kept = kept m })) (rec.fetched m))) among in
     let same : front ≡ other = some_is front other (sym here ∙ is) in
@@ -91,18 +102,26 @@ module _ (test : Commit → Bool) (history : List Commit) (front by : ℕ) (foun
   found-behind = omega (arith, position-from test (front + 1) (drop front history) by found)
 
   found-within : by ≤ length history
-  found-within = omega (arith, found-behind, position-within test (front + 1) (drop front history) by found, length-drop front history)
+  found-within =
+      omega (arith, found-behind, position-within test (front + 1) (drop front history) by found, length-drop front history)
 
 -- so does the commit that blocks a mount
-far-off : (store : Store) (history : List Commit) (set : Set) (m front by : ℕ) (own : Bool) → cond own (first_same (points_of store) history set m front) (first_after history m front) ≡ Some by → (front < by) × (by ≤ length history)
-far-off store history set m front by false e = (found-behind (touches m) history front by e, found-within (touches m) history front by e)
+far-off : (store : Store) (history : List Commit) (set : Set) (m front by : ℕ) (own : Bool)
+    → cond own (first_same (points_of store) history set m front) (first_after history m front) ≡ Some by
+    → (front < by) × (by ≤ length history)
+far-off store history set m front by false e =
+    (found-behind (touches m) history front by e, found-within (touches m) history front by e)
 far-off store history set m front by true e =
     (found-behind (changes_same (points_of store) set m) history front by e, found-within (changes_same (points_of store) set m) history front by e)
 
-pub blocks-behind : (store : Store) (history : List Commit) (set : Set) (mounts : List ℕ) (rec : Record) (m by n : ℕ) → set.fronts ≡ front_in (only mounts rec) → SeesTo mounts n rec → blocking store history set m ≡ Some by → (n < by) × (by ≤ length history)
-blocks-behind store history set mounts rec m by n fronts sees blocks = by_front (set.fronts m) (ap (λ (f : Fronts). f m) (sym fronts)) blocks
+pub blocks-behind : (store : Store) (history : List Commit) (set : Set) (mounts : List ℕ) (rec : Record) (m by n : ℕ)
+    → set.fronts ≡ front_in (only mounts rec) → SeesTo mounts n rec → blocking store history set m ≡ Some by
+    → (n < by) × (by ≤ length history)
+blocks-behind store history set mounts rec m by n fronts sees blocks =
+    by_front (set.fronts m) (ap (λ (f : Fronts). f m) (sym fronts)) blocks
   where
-    by_front : (o : Option ℕ) → front_in (only mounts rec) m ≡ o → option_and_then (blocking_behind store history set m) o ≡ Some by → (n < by) × (by ≤ length history)
+    by_front : (o : Option ℕ) → front_in (only mounts rec) m ≡ o
+        → option_and_then (blocking_behind store history set m) o ≡ Some by → (n < by) × (by ≤ length history)
     by_front None is e = absurd cc
     by_front (Some front) is e =
         let least : n ≤ front = sees m front (among_front mounts rec m front is) (own_front mounts rec m front is) in
@@ -110,10 +129,14 @@ blocks-behind store history set mounts rec m by n fronts sees blocks = by_front 
         (omega (arith, least, far.0), far.1)
 
 -- the commit that blocks a mount isn't one that a front there covers, and a mount by key passes over the handle's own
-pub another : (store : Store) (history : List Commit) (set : Set) (rec : Record) (mounts : List ℕ) (m by : ℕ) → set.fronts ≡ front_in (only mounts rec) → Cover store set.handle history (front_in rec) → blocking store history set m ≡ Some by → IsAnothers set.handle history by
-another store history set rec mounts m by fronts covers blocks = by_front (set.fronts m) (ap (λ (f : Fronts). f m) (sym fronts)) blocks
+pub another : (store : Store) (history : List Commit) (set : Set) (rec : Record) (mounts : List ℕ) (m by : ℕ)
+    → set.fronts ≡ front_in (only mounts rec) → Cover store set.handle history (front_in rec)
+    → blocking store history set m ≡ Some by → IsAnothers set.handle history by
+another store history set rec mounts m by fronts covers blocks =
+    by_front (set.fronts m) (ap (λ (f : Fronts). f m) (sym fronts)) blocks
   where
-    by_front : (o : Option ℕ) → front_in (only mounts rec) m ≡ o → option_and_then (blocking_behind store history set m) o ≡ Some by → IsAnothers set.handle history by
+    by_front : (o : Option ℕ) → front_in (only mounts rec) m ≡ o
+        → option_and_then (blocking_behind store history set m) o ≡ Some by → IsAnothers set.handle history by
     by_front None is e = absurd cc
     by_front (Some front) is e =
         let far = far-off store history set m front by (counts_keys store m) e in
@@ -132,8 +155,11 @@ another store history set rec mounts m by fronts covers blocks = by_front (set.f
         here : unwrap_or (front_in rec m) 0 ≡ front
         here = ap (λ (o : Option ℕ). unwrap_or o 0) (own_front mounts rec m front is)
 
-        of_kind : (own : Bool) → counts_keys store m ≡ own → (place : ℕ) (commit : Commit) → slice_get history place ≡ Some commit → front ≤ place
-            → cond own (first_same (points_of store) history set m front) (first_after history m front) ≡ Some (place + 1) → commit.handle ≢ set.handle
+        of_kind : (own : Bool) → counts_keys store m ≡ own → (place : ℕ) (commit : Commit)
+            → slice_get history place ≡ Some commit → front ≤ place
+            → cond own (first_same (points_of store) history set m front) (first_after history m front)
+            ≡ Some (place + 1)
+            → commit.handle ≢ set.handle
         of_kind false whole place commit there le blocks = λ own.
             let touched : touches m commit ≡ true = there-behind (touches m) history front place commit blocks there in
             omega (arith, covers place m commit there own touched whole, here, le)
@@ -142,8 +168,11 @@ another store history set rec mounts m by fronts covers blocks = by_front (set.f
             let same : is_by set.handle commit ≡ true = eq-eqb set.handle commit.handle (sym own) in
             absurd cc
 
-pub blocked_by_another : {F : Type 0} (formats : Formats) (lock : Place Told) (plan : Plan F) (old new : HandleValue) (set : Prepared) (mount : Name) (by front : ℕ) → IsHandle lock plan old → IsPrepared formats plan.mounted old.number (record_of old.rec) set
-    → (done : IsDone formats plan.mounted old new set (Err (fault.Conflict mount by front))) → IsAnothers old.number (commits_of done.found) by
+pub blocked_by_another : {F : Type 0} (formats : Formats) (lock : Place Told) (plan : Plan F) (old new : HandleValue)
+    (set : Prepared) (mount : Name) (by front : ℕ) → IsHandle lock plan old
+    → IsPrepared formats plan.mounted old.number (record_of old.rec) set
+    → (done : IsDone formats plan.mounted old new set (Err (fault.Conflict mount by front)))
+    → IsAnothers old.number (commits_of done.found) by
 blocked_by_another formats lock plan old new set mount by front is prepared done =
     let store = store_at plan.mounted in
     let history = commits_of done.found in

@@ -53,17 +53,21 @@ module _ {A : Type 0} (P : A → Type 0) where
   all-at (y ∷ xs) ys zero x all is = subst P (some_is y x is) (All-head P y (xs ++ ys) all)
   all-at (y ∷ xs) ys (suc k) x all is = all-at xs ys k x (All-tail P y (xs ++ ys) all) is
 
-all-of-back : (P : Known Told → Type 0) (handles : List HandleValue) → All P (seats_back handles) → All (λ handle. P (seat_of handle)) handles
+all-of-back : (P : Known Told → Type 0) (handles : List HandleValue) → All P (seats_back handles)
+    → All (λ handle. P (seat_of handle)) handles
 all-of-back P [] all = All-nil (λ handle. P (seat_of handle))
 all-of-back P (handle ∷ handles) all =
     All-cons (λ h. P (seat_of h)) handle handles (All-head P (seat_of handle) [] (all-behind P (seats_back handles) (seat_of handle ∷ []) all)) (all-of-back P handles (all-left P (seats_back handles) (seat_of handle ∷ []) all))
 
 pub length-back : (handles : List HandleValue) → length (seats_back handles) ≡ length handles
 length-back [] = refl
-length-back (handle ∷ handles) = let rest = length-back handles in omega (arith, length-append (seats_back handles) (seat_of handle ∷ []))
+length-back (handle ∷ handles) =
+    let rest = length-back handles in omega (arith, length-append (seats_back handles) (seat_of handle ∷ []))
 
 -- where a seat is left to be moved, there is room for it
-pub room_left : (free seats : List (Known Told)) (all left moved new : List HandleValue) (handle : HandleValue) (len room first_room : ℕ) → len ≡ length seats → seats ≡ free ++ seats_back moved → all ≡ left ++ moved → left ≡ new ++ handle ∷ []
+pub room_left : (free seats : List (Known Told)) (all left moved new : List HandleValue) (handle : HandleValue)
+    (len room first_room : ℕ) → len ≡ length seats → seats ≡ free ++ seats_back moved → all ≡ left ++ moved
+    → left ≡ new ++ handle ∷ []
     → length all + length free ≤ first_room → room ≡ first_room → len < room
 room_left free seats all left moved new handle len room first_room len_is seats_are all_are left_are enough same =
     let a = ap (λ (l : List (Known Told)). length l) seats_are in
@@ -75,14 +79,17 @@ room_left free seats all left moved new handle len room first_room len_is seats_
     let h = length-back moved in
     omega arith
 
-all-each : (P : Known Told → Type 0) (seats : List (Known Told)) → ((k : ℕ) → k < length seats → (seat : Known Told) × (slice_get seats k ≡ Some seat) × P seat) → All P seats
+all-each : (P : Known Told → Type 0) (seats : List (Known Told))
+    → ((k : ℕ) → k < length seats → (seat : Known Told) × (slice_get seats k ≡ Some seat) × P seat) → All P seats
 all-each P [] each = All-nil P
 all-each P (seat ∷ seats) each =
     let first = each 0 (omega arith) in
     All-cons P seat seats (subst P (sym (some_is seat first.0 first.1)) first.2) (all-each P seats (λ k lt. each (suc k) (omega arith)))
 
 -- all seats are the lock's
-pub all_places : {F : Type 0} (lock : Place Told) (plan : Plan F) (free : List (Known Told)) (handles : List HandleValue) → AreUnused lock free → All (IsHandle lock plan) handles → All (λ seat. seat.place ≡ lock.place) (free ++ seats_back handles)
+pub all_places : {F : Type 0} (lock : Place Told) (plan : Plan F) (free : List (Known Told))
+    (handles : List HandleValue) → AreUnused lock free → All (IsHandle lock plan) handles
+    → All (λ seat. seat.place ≡ lock.place) (free ++ seats_back handles)
 all_places lock plan free handles unused are =
     All-append (λ (seat : Known Told). seat.place ≡ lock.place) free (seats_back handles)
     (all-each (λ (seat : Known Told). seat.place ≡ lock.place) free
@@ -94,21 +101,26 @@ all_places lock plan free handles unused are =
         All-append (λ (seat : Known Told). seat.place ≡ lock.place) (seats_back hs) (seat_of h ∷ []) (back hs (All-tail (IsHandle lock plan) h hs all))
         (All-cons (λ (seat : Known Told). seat.place ≡ lock.place) (seat_of h) [] (All-head (IsHandle lock plan) h hs all).place (All-nil (λ (seat : Known Told). seat.place ≡ lock.place)))
 
-pub all_counted : (lock : Place Told) (free seats : List (Known Told)) (handles : List HandleValue) → seats ≡ free ++ seats_back handles → length handles + length free ≡ lock.seats → length seats ≡ lock.seats
+pub all_counted : (lock : Place Told) (free seats : List (Known Told)) (handles : List HandleValue)
+    → seats ≡ free ++ seats_back handles → length handles + length free ≡ lock.seats → length seats ≡ lock.seats
 all_counted lock free seats handles are all =
     let a = ap (λ (l : List (Known Told)). length l) are in let b = length-append free (seats_back handles) in let c = length-back handles in omega arith
 
 -- ---- the story's first entry
 
 -- nobody's entries are the opening alone, so the story begins with the lock's
-first_is : (opening other : Opening) (rest : List Told) → made_by maker_of 0 (Opened opening ∷ rest) ≡ Opened other ∷ [] → opening ≡ other
+first_is : (opening other : Opening) (rest : List Told) → made_by maker_of 0 (Opened opening ∷ rest) ≡ Opened other ∷ []
+    → opening ≡ other
 first_is opening other rest is = ap opening_in is
 
-nobody_else : (opening other : Opening) (rest : List Told) → made_by maker_of 0 (Opened opening ∷ rest) ≡ Opened other ∷ [] → made_by maker_of 0 rest ≡ []
+nobody_else : (opening other : Opening) (rest : List Told)
+    → made_by maker_of 0 (Opened opening ∷ rest) ≡ Opened other ∷ [] → made_by maker_of 0 rest ≡ []
 nobody_else opening other rest is = ap (drop 1) is
 
-others_made : (number : ℕ) (opening : Opening) (rest : List Told) → number ≢ 0 → made_by maker_of number (Opened opening ∷ rest) ≡ made_by maker_of number rest
-others_made number opening rest ne = ap (λ (b : Bool). cond b (Opened opening ∷ made_by maker_of number rest) (made_by maker_of number rest)) (ne_eqb 0 number (λ e. ne (sym e)))
+others_made : (number : ℕ) (opening : Opening) (rest : List Told) → number ≢ 0
+    → made_by maker_of number (Opened opening ∷ rest) ≡ made_by maker_of number rest
+others_made number opening rest ne =
+    ap (λ (b : Bool). cond b (Opened opening ∷ made_by maker_of number rest) (made_by maker_of number rest)) (ne_eqb 0 number (λ e. ne (sym e)))
 
 module _ {D P : Type 0} (formats : Formats) (g : Ghosts D) (code : Coded D) (refused : P → ℕ) {F : Type 0} (lock : Place Told) (plan : Plan F) (started : IsStarted lock plan) (free : List (Known Told))
     (unused : AreUnused lock free) (handles : List HandleValue) (core : Core D P) (entries : ℕ) where
@@ -130,17 +142,21 @@ module _ {D P : Type 0} (formats : Formats) (g : Ghosts D) (code : Coded D) (ref
     files_are = ap (λ (o : Opening). o.files) opening_is ∙ started.files
 
     -- a number that no handle has made nothing
-    free_made : (given number : ℕ) → given + length free ≡ lock.seats → given < number → number ≤ lock.seats → made_by maker_of number log ≡ []
+    free_made : (given number : ℕ) → given + length free ≡ lock.seats → given < number → number ≤ lock.seats
+        → made_by maker_of number log ≡ []
     free_made given number all more some =
         let at = unused.each (number - given - 1) (omega arith) in
         let same : lock.seats - length free + (number - given - 1) + 1 ≡ number = omega arith in
         all-at (λ (seat : Known Told). made_by maker_of seat.number log ≡ seat.own) free (seats_back handles) (number - given - 1) (knowledge lock.place number at.0 []) own
         (at.1 ∙ ap (λ n. Some (knowledge lock.place n at.0 [])) same)
 
-    pub only_handles : (number : ℕ) → length handles + length free ≡ lock.seats → (number ≡ 0) ⊎ (length handles < number) → made_by maker_of number shared.rest ≡ []
-    only_handles number all (inl none) = subst (λ n. made_by maker_of n shared.rest ≡ []) (sym none) (nobody_else shared.opening (opening_in lock.start) shared.rest begun)
+    pub only_handles : (number : ℕ) → length handles + length free ≡ lock.seats
+        → (number ≡ 0) ⊎ (length handles < number) → made_by maker_of number shared.rest ≡ []
+    only_handles number all (inl none) =
+        subst (λ n. made_by maker_of n shared.rest ≡ []) (sym none) (nobody_else shared.opening (opening_in lock.start) shared.rest begun)
     only_handles number all (inr more) =
-        sym (others_made number shared.opening shared.rest (λ e. omega (arith, e))) ∙ sym (ap (made_by maker_of number) shared.log_is) ∙ by (nat_lt lock.seats number) refl
+        sym (others_made number shared.opening shared.rest (λ e. omega (arith, e)))
+        ∙ sym (ap (made_by maker_of number) shared.log_is) ∙ by (nat_lt lock.seats number) refl
       where
         by : (b : Bool) → nat_lt lock.seats number ≡ b → made_by maker_of number log ≡ []
         by true lt = others number (ltb-true lock.seats number lt)
@@ -158,9 +174,11 @@ module _ {D P : Type 0} (formats : Formats) (g : Ghosts D) (code : Coded D) (ref
           (all-of-back (λ (seat : Known Told). made_by maker_of seat.number log ≡ seat.own) handles (all-behind (λ (seat : Known Told). made_by maker_of seat.number log ≡ seat.own) free (seats_back handles) own))
 
       same_journal : shared.journal ≡ journal
-      same_journal = (coded_journal code).inj shared.journal journal (sym shared.journal_is ∙ ap (λ (o : Opening). o.journal) opening_is ∙ journal_is)
+      same_journal =
+          (coded_journal code).inj shared.journal journal (sym shared.journal_is ∙ ap (λ (o : Opening). o.journal) opening_is ∙ journal_is)
 
-      pub closed_so : length handles + length free ≡ lock.seats → closed.history ≡ core.history → closed.patterns ≡ core.patterns
+      pub closed_so : length handles + length free ≡ lock.seats → closed.history ≡ core.history
+          → closed.patterns ≡ core.patterns
           → (core.wrote ≡ false → IsFresh core.journal → closed.disk ≡ core.journal.disk)
           → ((start : D) (run : Run) → IsStore g start core.journal run → ¬ HasRisen (g.faults core.journal.disk) (g.faults closed.disk) → SameFiles (g.seen closed.disk) (files_of run))
           → ((start : D) (run : Run) → IsStore g start core.journal run → ¬ HasRisen run.faults (g.faults closed.disk) → IsCalm (g.seen closed.disk) (g.may_leave closed.disk) (files_of run) run.doubt)

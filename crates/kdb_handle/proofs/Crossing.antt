@@ -38,7 +38,8 @@ module _ (D : RattleType) (disk : Disk.Ghosts D.Denot) where
 
     module _ (P : RattleType) (p : IsSend P) where
       core_send : IsSend (Core.the_field D P disk).row
-      core_send = let j = journal_send in let h = history_send in let k = keys_send in search (sendable, crosses) depth 60
+      core_send =
+          let j = journal_send in let h = history_send in let k = keys_send in search (sendable, crosses) depth 60
 
       module _ (F : RattleType) where
         field_send : IsSend (Shared.the_field D F P disk).row

@@ -39,7 +39,8 @@ use Rattle.store_verdict.specs.declared.records.Record.{Record}
 -- ---- behind a conflict
 
 -- the same keys are kept by the points and the record that a handle shows
-pub kept_as : (points others : List Name) (parent : Name) (rec shown : Record) (keys : KeyMap) → points ≡ others → rec ≡ shown → IsKept points parent (record_of rec) keys → IsKept others parent (record_of shown) keys
+pub kept_as : (points others : List Name) (parent : Name) (rec shown : Record) (keys : KeyMap) → points ≡ others
+    → rec ≡ shown → IsKept points parent (record_of rec) keys → IsKept others parent (record_of shown) keys
 kept_as points others parent rec shown keys same_points same_record is =
     subst (λ (ps : List Name). IsKept ps parent (record_of shown) keys) same_points (subst (λ (r : Record). IsKept points parent (record_of r) keys) same_record is)
 
@@ -55,7 +56,8 @@ module _ (formats : Formats) {F : Type 0} (lock : Place Told) (plan : Plan F) (p
   IsMet first = IsStored formats plan.mounted first between parent ours (Err (commit_fault.Conflict mount by front))
 
   -- the handle that met a conflict saw what the set found, and did nothing else
-  pub idle : (first new : HandleValue) → IsMet first → IsPrefix between.seen new.seen → new.own ≡ between.own → record_of new.rec ≡ record_of between.rec → IsIdle first new
+  pub idle : (first new : HandleValue) → IsMet first → IsPrefix between.seen new.seen → new.own ≡ between.own
+      → record_of new.rec ≡ record_of between.rec → IsIdle first new
   idle first new met seen own kept = record {
     seen = prefix-trans first.seen between.seen new.seen (first_seen first met) seen;
     own = own ∙ met.done.gains ∙ append-nil first.own;
@@ -63,7 +65,8 @@ module _ (formats : Formats) {F : Type 0} (lock : Place Told) (plan : Plan F) (p
   }
     where
       first_seen : (first : HandleValue) → IsMet first → IsPrefix first.seen between.seen
-      first_seen first met = subst (λ (l : List Told). IsPrefix first.seen l) (sym (met.done.sees ∙ append-nil met.done.found)) met.done.seen
+      first_seen first met =
+          subst (λ (l : List Told). IsPrefix first.seen l) (sym (met.done.sees ∙ append-nil met.done.found)) met.done.seen
 
   -- what the involved mounts have in the commits that a handle has seen
   abbrev pub present_in : HandleValue → KeyMap
@@ -74,7 +77,8 @@ module _ (formats : Formats) {F : Type 0} (lock : Place Told) (plan : Plan F) (p
       → IsGotAt (store_of plan.mounted procs) plan.mounted (commits_of new.seen) between.number parent (record_of between.rec) (record_of new.rec) (Ok got)
 
   -- what is kept behind a get is what there is now
-  pub present_kept : (new : HandleValue) (got : Got) → GotClause new got → (theirs : KeyMap) → IsKept points parent (record_of new.rec) theirs → theirs ≡ present_in new
+  pub present_kept : (new : HandleValue) (got : Got) → GotClause new got → (theirs : KeyMap)
+      → IsKept points parent (record_of new.rec) theirs → theirs ≡ present_in new
   present_kept new got is_got theirs theirs_are =
       let gives : Gives (store_of plan.mounted (λ n. proc_of between.rec)) (commits_of new.seen) between.number parent (record_of between.rec) (record_of new.rec) got = is_got (λ n. proc_of between.rec) refl in
       kept-now points parent (length (commits_of new.seen)) (replay (store_at plan.mounted).start (commits_of new.seen)) (record_of between.rec) (record_of new.rec) theirs gives.kept theirs_are
@@ -84,58 +88,124 @@ module _ (formats : Formats) {F : Type 0} (lock : Place Told) (plan : Plan F) (p
     abbrev item : Tried
     item = record { mount = mount; by = by; front = front; again = got.front }
 
-    retry : (first : HandleValue) → between.number ≡ first.number → IsMet first → IsRetry formats plan.mounted parent first ours item new base theirs
+    retry : (first : HandleValue) → between.number ≡ first.number → IsMet first
+        → IsRetry formats plan.mounted parent first ours item new base theirs
     retry first numbered met =
-        record { between = between; stored = met; numbered = numbered; base_is = base_is; number = number; proc = proc; seen = seen; own = own; legal = legal; got = got; is_got = is_got; again = refl; theirs_is = theirs_is }
+        record {
+          between = between;
+          stored = met;
+          numbered = numbered;
+          base_is = base_is;
+          number = number;
+          proc = proc;
+          seen = seen;
+          own = own;
+          legal = legal;
+          got = got;
+          is_got = is_got;
+          again = refl;
+          theirs_is = theirs_is;
+        }
 
     no_base : (name : Name) → is_reached points parent name ≡ false → map.get base name ≡ None
-    no_base = base-outside (store_at plan.mounted) (commits_of between.seen) between.number (record_of between.rec) parent base is.keeps base_is
+    no_base =
+        base-outside (store_at plan.mounted) (commits_of between.seen) between.number (record_of between.rec) parent base is.keeps base_is
 
     no_theirs : (name : Name) → is_reached points parent name ≡ false → map.get theirs name ≡ None
-    no_theirs name off = ap (λ (k : KeyMap). map.get k name) theirs_is ∙ reach-outside points parent (replay (store_at plan.mounted).start (commits_of new.seen)) name off
+    no_theirs name off =
+        ap (λ (k : KeyMap). map.get k name) theirs_is
+        ∙ reach-outside points parent (replay (store_at plan.mounted).start (commits_of new.seen)) name off
 
     module _ (strategy : Strategy) (first : HandleValue) (numbered : between.number ≡ first.number) (met : IsMet first) (made tried : List Tried) (tried_is : tried ≡ made ++ item ∷ []) where
-      pub made_again : (next : KeyMap) → IsMerged strategy base ours theirs next → IsAgain formats plan.mounted parent strategy first ours made new tried next
+      pub made_again : (next : KeyMap) → IsMerged strategy base ours theirs next
+          → IsAgain formats plan.mounted parent strategy first ours made new tried next
       made_again next merged =
-          record { item = item; tried_is = tried_is; is_try = record { base = base; theirs = theirs; retry = retry first numbered met; remade = remade points parent strategy base ours theirs no_base no_theirs next merged } }
+          record {
+            item = item;
+            tried_is = tried_is;
+            is_try = record { base = base; theirs = theirs; retry = retry first numbered met; remade = remade points parent strategy base ours theirs no_base no_theirs next merged };
+          }
 
-      clash : (names : List Name) → HasConflicts strategy base ours theirs (merge_fault.Conflicts names) → AreInTheWay points parent strategy base ours theirs names
-      clash names has = in_the_way points parent strategy base ours theirs no_base no_theirs has.abort names (subst (AreConflicts base ours theirs) (sym (ap names_in has.is)) has.conflicts)
+      clash : (names : List Name) → HasConflicts strategy base ours theirs (merge_fault.Conflicts names)
+          → AreInTheWay points parent strategy base ours theirs names
+      clash names has =
+          in_the_way points parent strategy base ours theirs no_base no_theirs has.abort names (subst (AreConflicts base ours theirs) (sym (ap names_in has.is)) has.conflicts)
 
       pub made_clash : (names : List Name) → RefusesMerge strategy base ours theirs (merge_fault.Conflicts names)
           → IsCut formats plan.mounted parent first ours made new tried (λ b t. AreInTheWay points parent strategy b ours t names)
       made_clash names refuses =
-          record { item = item; tried_is = tried_is; base = base; theirs = theirs; retry = retry first numbered met; unmade = clash names (refuses (λ e. absurd cc)) }
+          record {
+            item = item;
+            tried_is = tried_is;
+            base = base;
+            theirs = theirs;
+            retry = retry first numbered met;
+            unmade = clash names (refuses (λ e. absurd cc));
+          }
 
       pub made_none : IsCut formats plan.mounted parent first ours made new tried (λ b t. Unit {0})
-      made_none = record { item = item; tried_is = tried_is; base = base; theirs = theirs; retry = retry first numbered met; unmade = tt }
+      made_none =
+          record {
+            item = item;
+            tried_is = tried_is;
+            base = base;
+            theirs = theirs;
+            retry = retry first numbered met;
+            unmade = tt;
+          }
 
 -- ---- the tries
 
 -- one try more
-pub tries-more : {S : Type 0} (IsOne : S → KeyMap → Tried → S → KeyMap → Type 0) (old : S) (ours : KeyMap) (items : List Tried) (mid : S) (keys : KeyMap) (item : Tried) (new : S) (next : KeyMap)
-    → AreTries IsOne old ours items mid keys → IsOne mid keys item new next → AreTries IsOne old ours (items ++ item ∷ []) new next
+pub tries-more : {S : Type 0} (IsOne : S → KeyMap → Tried → S → KeyMap → Type 0) (old : S) (ours : KeyMap)
+    (items : List Tried) (mid : S) (keys : KeyMap) (item : Tried) (new : S) (next : KeyMap)
+    → AreTries IsOne old ours items mid keys → IsOne mid keys item new next
+    → AreTries IsOne old ours (items ++ item ∷ []) new next
 tries-more {S} IsOne old ours [] mid keys item new next same one =
-    record { mid = new; next = next; is_try = subst (λ (s : S). IsOne s ours item new next) same.0 (subst (λ (k : KeyMap). IsOne mid k item new next) same.1 one); rest = (refl, refl) }
+    record {
+      mid = new;
+      next = next;
+      is_try = subst (λ (s : S). IsOne s ours item new next) same.0 (subst (λ (k : KeyMap). IsOne mid k item new next) same.1 one);
+      rest = (refl, refl);
+    }
 tries-more {S} IsOne old ours (first ∷ items) mid keys item new next leads one =
-    record { mid = leads.mid; next = leads.next; is_try = leads.is_try; rest = tries-more IsOne leads.mid leads.next items mid keys item new next leads.rest one }
+    record {
+      mid = leads.mid;
+      next = leads.next;
+      is_try = leads.is_try;
+      rest = tries-more IsOne leads.mid leads.next items mid keys item new next leads.rest one;
+    }
 
 module _ (formats : Formats) (files : List MountedFile) (parent : Name) (strategy : Strategy) (tries : ℕ) (old : HandleValue) (ours : KeyMap) (made : List Tried) (last : HandleValue) (keys : KeyMap) (retries : AreTries (IsTry formats files parent strategy) old ours made last keys) where
-  pub tried_again : (new : HandleValue) (tried : List Tried) (next : KeyMap) → IsAgain formats files parent strategy last keys made new tried next → AreTries (IsTry formats files parent strategy) old ours tried new next
+  pub tried_again : (new : HandleValue) (tried : List Tried) (next : KeyMap)
+      → IsAgain formats files parent strategy last keys made new tried next
+      → AreTries (IsTry formats files parent strategy) old ours tried new next
   tried_again new tried next again =
       subst (λ (l : List Tried). AreTries (IsTry formats files parent strategy) old ours l new next) (sym again.tried_is)
       (tries-more (IsTry formats files parent strategy) old ours made last keys again.item new next retries again.is_try)
 
-  pub more_tried : (new : HandleValue) (tried : List Tried) (next : KeyMap) → IsAgain formats files parent strategy last keys made new tried next → length tried ≡ length made + 1
+  pub more_tried : (new : HandleValue) (tried : List Tried) (next : KeyMap)
+      → IsAgain formats files parent strategy last keys made new tried next → length tried ≡ length made + 1
   more_tried new tried next again = ap length again.tried_is ∙ length-append made (again.item ∷ [])
 
   module _ (new : HandleValue) (after : KeyMap) (tried : List Tried) where
-    pub stored_so : (done : Done) → length made < tries → after ≡ keys → (tried ≡ made) → IsStored formats files last new parent keys (Ok done) → IsMergedSet formats files parent strategy tries old ours new after tried (Ok done)
+    pub stored_so : (done : Done) → length made < tries → after ≡ keys → (tried ≡ made)
+        → IsStored formats files last new parent keys (Ok done)
+        → IsMergedSet formats files parent strategy tries old ours new after tried (Ok done)
     stored_so done few same all stored =
-        record { made = made; last = last; keys = keys; retries = retries; fewer = omega (arith, few, ap length all); ends = (all, stored); after_is = same }
+        record {
+          made = made;
+          last = last;
+          keys = keys;
+          retries = retries;
+          fewer = omega (arith, few, ap length all);
+          ends = (all, stored);
+          after_is = same;
+        }
 
     -- the last of the tries ends them
-    pub last_so : (end : Result Done MergeEnd) → length made + 1 ≡ tries → after ≡ keys_after ours keys end → tried ≡ made → IsEnd formats files parent strategy tries last keys made new made end
+    pub last_so : (end : Result Done MergeEnd) → length made + 1 ≡ tries → after ≡ keys_after ours keys end
+        → tried ≡ made → IsEnd formats files parent strategy tries last keys made new made end
         → IsMergedSet formats files parent strategy tries old ours new after tried end
     last_so end each same all ends = record {
       made = made;
@@ -147,12 +217,23 @@ module _ (formats : Formats) (files : List MountedFile) (parent : Name) (strateg
       after_is = same;
     }
 
-    refused_so : (why : SetFault) → length made < tries → after ≡ ours → (tried ≡ made) → IsSet formats files last new parent keys (Err why) → IsOther why
+    refused_so : (why : SetFault) → length made < tries → after ≡ ours → (tried ≡ made)
+        → IsSet formats files last new parent keys (Err why) → IsOther why
         → IsMergedSet formats files parent strategy tries old ours new after tried (Err (merge_end.Set why))
     refused_so why few same all set other =
-        record { made = made; last = last; keys = keys; retries = retries; fewer = omega (arith, few, ap length all); ends = (all, set, other); after_is = same }
+        record {
+          made = made;
+          last = last;
+          keys = keys;
+          retries = retries;
+          fewer = omega (arith, few, ap length all);
+          ends = (all, set, other);
+          after_is = same;
+        }
 
-    cut_so : (end : MergeEnd) (Unmade : KeyMap → KeyMap → Type 0) → length made + 1 < tries → after ≡ ours → IsCut formats files parent last keys made new tried Unmade → IsEnd formats files parent strategy tries last keys made new tried (Err end)
+    cut_so : (end : MergeEnd) (Unmade : KeyMap → KeyMap → Type 0) → length made + 1 < tries → after ≡ ours
+        → IsCut formats files parent last keys made new tried Unmade
+        → IsEnd formats files parent strategy tries last keys made new tried (Err end)
         → IsMergedSet formats files parent strategy tries old ours new after tried (Err end)
     cut_so end Unmade few same cut ends = record {
       made = made;
@@ -165,16 +246,28 @@ module _ (formats : Formats) (files : List MountedFile) (parent : Name) (strateg
     }
 
     -- an attempt ended the tries
-    pub ended_so : (end : MergeEnd) → length made + 1 < tries → after ≡ ours → IsAttempt formats files parent strategy 0 last keys made new tried (Err end) → IsMergedSet formats files parent strategy tries old ours new after tried (Err end)
-    ended_so (merge_end.MergeConflicts names) few same ends = cut_so (merge_end.MergeConflicts names) _ few same ends ends
+    pub ended_so : (end : MergeEnd) → length made + 1 < tries → after ≡ ours
+        → IsAttempt formats files parent strategy 0 last keys made new tried (Err end)
+        → IsMergedSet formats files parent strategy tries old ours new after tried (Err end)
+    ended_so (merge_end.MergeConflicts names) few same ends =
+        cut_so (merge_end.MergeConflicts names) _ few same ends ends
     ended_so (merge_end.TriesSpent mount by front) few same ends = absurd ends
     ended_so (merge_end.Set why) few same ends = refused_so why (omega (arith, few)) same ends.0 ends.1 ends.2
     ended_so merge_end.Memory few same (inl idle) =
-        record { made = made; last = last; keys = keys; retries = retries; fewer = omega (arith, few, ap length idle.0); ends = inl idle; after_is = same }
+        record {
+          made = made;
+          last = last;
+          keys = keys;
+          retries = retries;
+          fewer = omega (arith, few, ap length idle.0);
+          ends = inl idle;
+          after_is = same;
+        }
     ended_so merge_end.Memory few same (inr cut) = cut_so merge_end.Memory _ few same cut (inr cut)
 
 -- where there was no memory for the first try
-pub none_tried : (formats : Formats) (files : List MountedFile) (parent : Name) (strategy : Strategy) (tries : ℕ) (old : HandleValue) (ours : KeyMap) (tried : List Tried) → 1 ≤ tries → tried ≡ []
+pub none_tried : (formats : Formats) (files : List MountedFile) (parent : Name) (strategy : Strategy) (tries : ℕ)
+    (old : HandleValue) (ours : KeyMap) (tried : List Tried) → 1 ≤ tries → tried ≡ []
     → IsMergedSet formats files parent strategy tries old ours old ours tried (Err merge_end.Memory)
 none_tried formats files parent strategy tries old ours tried some none = record {
   made = [];

@@ -37,7 +37,9 @@ module _ (formats : Formats) (files : List MountedFile) (parent : Name) (strateg
   involved = involved_in (points_of (store_at files)) parent
 
   -- the commit in the way lies behind the fronts, and the set found it
-  met-behind : (first between : HandleValue) (ours : KeyMap) (mount : Name) (by front n : ℕ) → (stored : IsStored formats files first between parent ours (Err (commit_fault.Conflict mount by front))) → SeesTo involved n (record_of first.rec)
+  met-behind : (first between : HandleValue) (ours : KeyMap) (mount : Name) (by front n : ℕ)
+      → (stored : IsStored formats files first between parent ours (Err (commit_fault.Conflict mount by front)))
+      → SeesTo involved n (record_of first.rec)
       → (n < by) × (by ≤ length (commits_of stored.done.found))
   met-behind first between ours mount by front n stored sees =
       let store = store_at files in
@@ -49,7 +51,9 @@ module _ (formats : Formats) (files : List MountedFile) (parent : Name) (strateg
       blocks-behind store history set involved (record_of first.rec) m by n (ap (λ (s : Set). s.fronts) stored.made.is) sees (blocked_at store history set set.touched m by blocked)
 
   -- the get behind it sees so far
-  seen-behind : (old : HandleValue) (ours : KeyMap) (item : Tried) (new : HandleValue) (base theirs : KeyMap) → (retry : IsRetry formats files parent old ours item new base theirs) → item.by ≤ length (commits_of retry.stored.done.found) → SeesTo involved item.by (record_of new.rec)
+  seen-behind : (old : HandleValue) (ours : KeyMap) (item : Tried) (new : HandleValue) (base theirs : KeyMap)
+      → (retry : IsRetry formats files parent old ours item new base theirs)
+      → item.by ≤ length (commits_of retry.stored.done.found) → SeesTo involved item.by (record_of new.rec)
   seen-behind old ours item new base theirs retry within m front among is =
       let store = store_at files in
       let present : List Commit = commits_of new.seen in
@@ -60,27 +64,38 @@ module _ (formats : Formats) (files : List MountedFile) (parent : Name) (strateg
       omega (arith, within, found, least, prefix-length (commits_of retry.between.seen) (commits_of new.seen) (commits-prefix retry.between.seen new.seen retry.seen))
 
   -- the numbers of the tries rise, and what comes behind them
-  rise-tries : (old : HandleValue) (ours : KeyMap) (items : List Tried) (new : HandleValue) (last : KeyMap) (n : ℕ) (more : List ℕ) → AreTries (IsTry formats files parent strategy) old ours items new last → SeesTo involved n (record_of old.rec)
-      → ((k : ℕ) → SeesTo involved k (record_of new.rec) → Rise k more) → Rise n (over (λ (item : Tried). item.by) items ++ more)
-  rise-tries old ours [] new last n more same sees rest = rest n (subst (λ (h : HandleValue). SeesTo involved n (record_of h.rec)) (sym same.0) sees)
+  rise-tries : (old : HandleValue) (ours : KeyMap) (items : List Tried) (new : HandleValue) (last : KeyMap) (n : ℕ)
+      (more : List ℕ) → AreTries (IsTry formats files parent strategy) old ours items new last
+      → SeesTo involved n (record_of old.rec)
+      → ((k : ℕ) → SeesTo involved k (record_of new.rec) → Rise k more)
+      → Rise n (over (λ (item : Tried). item.by) items ++ more)
+  rise-tries old ours [] new last n more same sees rest =
+      rest n (subst (λ (h : HandleValue). SeesTo involved n (record_of h.rec)) (sym same.0) sees)
   rise-tries old ours (item ∷ items) new last n more leads sees rest =
       let retry = leads.is_try.retry in
       let met = met-behind old retry.between ours item.mount item.by item.front n retry.stored sees in
       (met.0, rise-tries leads.mid leads.next items new last item.by more leads.rest (seen-behind old ours item leads.mid leads.is_try.base leads.is_try.theirs retry met.1) rest)
 
   module _ (tries : ℕ) (old : HandleValue) (ours : KeyMap) (new : HandleValue) (after : KeyMap) (tried : List Tried) where
-    from_all : (made : List Tried) (last : HandleValue) (keys : KeyMap) → AreTries (IsTry formats files parent strategy) old ours made last keys → (more : List ℕ) → ((k : ℕ) → SeesTo involved k (record_of last.rec) → Rise k more)
+    from_all : (made : List Tried) (last : HandleValue) (keys : KeyMap)
+        → AreTries (IsTry formats files parent strategy) old ours made last keys → (more : List ℕ)
+        → ((k : ℕ) → SeesTo involved k (record_of last.rec) → Rise k more)
         → Rise 0 (over (λ (item : Tried). item.by) made ++ more)
-    from_all made last keys retries more rest = rise-tries old ours made last keys 0 more retries (λ m front among is. omega arith) rest
+    from_all made last keys retries more rest =
+        rise-tries old ours made last keys 0 more retries (λ m front among is. omega arith) rest
 
     -- behind tries that were all merged
-    whole : (made : List Tried) (last : HandleValue) (keys : KeyMap) → AreTries (IsTry formats files parent strategy) old ours made last keys → tried ≡ made → Rise 0 (over (λ (item : Tried). item.by) tried)
+    whole : (made : List Tried) (last : HandleValue) (keys : KeyMap)
+        → AreTries (IsTry formats files parent strategy) old ours made last keys → tried ≡ made
+        → Rise 0 (over (λ (item : Tried). item.by) tried)
     whole made last keys retries same =
         subst (λ (l : List Tried). Rise 0 (over (λ (item : Tried). item.by) l)) (sym same)
         (subst (Rise 0) (append-nil (over (λ (item : Tried). item.by) made)) (from_all made last keys retries [] (λ k sees. tt)))
 
     -- and where the last one was cut
-    cut : (made : List Tried) (last : HandleValue) (keys : KeyMap) (Unmade : KeyMap → KeyMap → Type 0) → AreTries (IsTry formats files parent strategy) old ours made last keys → IsCut formats files parent last keys made new tried Unmade
+    cut : (made : List Tried) (last : HandleValue) (keys : KeyMap) (Unmade : KeyMap → KeyMap → Type 0)
+        → AreTries (IsTry formats files parent strategy) old ours made last keys
+        → IsCut formats files parent last keys made new tried Unmade
         → Rise 0 (over (λ (item : Tried). item.by) tried)
     cut made last keys Unmade retries is =
         let item = is.item in
@@ -88,7 +103,8 @@ module _ (formats : Formats) (files : List MountedFile) (parent : Name) (strateg
         (subst (Rise 0) (sym (map-append (λ (it : Tried). it.by) made (item ∷ [])))
         (from_all made last keys retries (item.by ∷ []) (λ k sees. ((met-behind last is.retry.between keys item.mount item.by item.front k is.retry.stored sees).0, tt))))
 
-    pub rising : (end : Result Done MergeEnd) → IsMergedSet formats files parent strategy tries old ours new after tried end → Rise 0 (in_the_way tried end)
+    pub rising : (end : Result Done MergeEnd)
+        → IsMergedSet formats files parent strategy tries old ours new after tried end → Rise 0 (in_the_way tried end)
     rising (Ok done) is = whole is.made is.last is.keys is.retries is.ends.0
     rising (Err (merge_end.TriesSpent mount by front)) is =
         subst (λ (l : List Tried). Rise 0 (over (λ (item : Tried). item.by) l ++ by ∷ [])) (sym is.ends.0)
@@ -97,6 +113,8 @@ module _ (formats : Formats) (files : List MountedFile) (parent : Name) (strateg
     rising (Err (merge_end.MergeConflicts names)) is = cut is.made is.last is.keys _ is.retries is.ends
     rising (Err merge_end.Memory) is = by is.ends
       where
-        by : ((tried ≡ is.made) × IsIdle is.last new) ⊎ IsCut formats files parent is.last is.keys is.made new tried (λ base theirs. Unit {0}) → Rise 0 (over (λ (item : Tried). item.by) tried)
+        by : ((tried ≡ is.made) × IsIdle is.last new)
+            ⊎ IsCut formats files parent is.last is.keys is.made new tried (λ base theirs. Unit {0})
+            → Rise 0 (over (λ (item : Tried). item.by) tried)
         by (inl idle) = whole is.made is.last is.keys is.retries idle.0
         by (inr last) = cut is.made is.last is.keys _ is.retries last

@@ -44,13 +44,16 @@ module _ (lock : Place Told) (all seats : List (Known Told)) (last : Known Told)
       let count = new.count in
       let same : length seats + 1 ≡ lock.seats = omega arith in
       let there : Some last ≡ Some (knowledge lock.place lock.seats lock.start []) =
-      sym (at-end seats last) ∙ sym (ap (λ (l : List (Known Told)). slice_get l (length seats)) are) ∙ new.each (length seats) (omega arith)
+      sym (at-end seats last) ∙ sym (ap (λ (l : List (Known Told)). slice_get l (length seats)) are)
+      ∙ new.each (length seats) (omega arith)
       ∙ ap (λ n. Some (knowledge lock.place n lock.start [])) same in
       subst (IsFlusher lock) (sym (some_is last (knowledge lock.place lock.seats lock.start []) there)) (record { place = refl; number = refl; begins = prefix-self lock.start; own = refl })
 
 -- ---- a turn of the flusher
 
-pub still_flusher : (lock : Place Told) (was now : Known Told) (place : TableId) (number : ℕ) (seen own told : List Told) → IsFlusher lock was → IsPrefix was.seen seen → place ≡ was.place → number ≡ was.number → own ≡ was.own → told ≡ []
+pub still_flusher : (lock : Place Told) (was now : Known Told) (place : TableId) (number : ℕ)
+    (seen own told : List Told) → IsFlusher lock was → IsPrefix was.seen seen → place ≡ was.place → number ≡ was.number
+    → own ≡ was.own → told ≡ []
     → now ≡ knowledge place number (seen ++ told) (own ++ told) → IsFlusher lock now
 still_flusher lock was now place number seen own told is sees at named made none now_is =
     subst (IsFlusher lock) (sym now_is) (record {
@@ -65,9 +68,13 @@ still_flusher lock was now place number seen own told is sees at named made none
 -- the last seats of a lock, with which nothing was made
 pub record AreUnused (lock : Place Told) (seats : List (Known Told)) : Type 0 where
   pub some : length seats ≤ lock.seats
-  pub each : (k : ℕ) → k < length seats → (seen : List Told) × (slice_get seats k ≡ Some (knowledge lock.place (lock.seats - length seats + k + 1) seen []))
+  pub each : (k : ℕ) → k < length seats
+      → (seen : List Told)
+      × (slice_get seats k ≡ Some (knowledge lock.place (lock.seats - length seats + k + 1) seen []))
 
-pub unused_all : (lock : Place Told) (seats : List (Known Told)) (room : ℕ) (kept given : Option (Known Told)) → AreFree lock seats room → HasFlusher lock kept given → AreUnused lock (seats ++ seat_in (option_or kept given) ∷ [])
+pub unused_all : (lock : Place Told) (seats : List (Known Told)) (room : ℕ) (kept given : Option (Known Told))
+    → AreFree lock seats room → HasFlusher lock kept given
+    → AreUnused lock (seats ++ seat_in (option_or kept given) ∷ [])
 unused_all lock seats room kept given free has =
     subst (λ (o : Option (Known Told)). AreUnused lock (seats ++ seat_in o ∷ [])) (sym has.there) (record { some = let long = length_push seats last in let some = free.some in omega arith; each = λ k lt. by k lt (cases_lt k (length seats)) })
   where
@@ -76,11 +83,13 @@ unused_all lock seats room kept given free has =
 
     whole : last ≡ knowledge lock.place lock.seats last.seen []
     whole =
-        ap (λ (p : TableId). knowledge p last.number last.seen last.own) has.is.place ∙ ap (λ n. knowledge lock.place n last.seen last.own) has.is.number
+        ap (λ (p : TableId). knowledge p last.number last.seen last.own) has.is.place
+        ∙ ap (λ n. knowledge lock.place n last.seen last.own) has.is.number
         ∙ ap (λ (l : List Told). knowledge lock.place lock.seats last.seen l) has.is.own
 
     by : (k : ℕ) → k < length (seats ++ last ∷ []) → (k < length seats) ⊎ (length seats ≤ k)
-        → (seen : List Told) × (slice_get (seats ++ last ∷ []) k ≡ Some (knowledge lock.place (lock.seats - length (seats ++ last ∷ []) + k + 1) seen []))
+        → (seen : List Told)
+        × (slice_get (seats ++ last ∷ []) k ≡ Some (knowledge lock.place (lock.seats - length (seats ++ last ∷ []) + k + 1) seen []))
     by k within (inl lt) =
         let long = length_push seats last in
         let some = free.some in

@@ -61,7 +61,9 @@ use Rattle.store_verdict.specs.declared.prepared.Prepared.{Prepared}
 use Rattle.store_verdict.specs.declared.records.Record.{Record}
 
 -- what stands as it was stands for the story that it stood for
-pub shared_same : (formats : Formats) {D P : Type 0} (g : Ghosts D) (code : Coded D) (refused : P → ℕ) (core next : Core D P) (entries count : ℕ) (log told : List Told) → next ≡ core → count ≡ entries → told ≡ [] → IsShared formats g code refused core entries log
+pub shared_same : (formats : Formats) {D P : Type 0} (g : Ghosts D) (code : Coded D) (refused : P → ℕ)
+    (core next : Core D P) (entries count : ℕ) (log told : List Told) → next ≡ core → count ≡ entries → told ≡ []
+    → IsShared formats g code refused core entries log
     → IsShared formats g code refused next count (log ++ told)
 shared_same formats {D} {P} g code refused core next entries count log told same counted none shared =
     subst (λ (c : Core D P). IsShared formats g code refused c count (log ++ told)) (sym same)
@@ -69,7 +71,9 @@ shared_same formats {D} {P} g code refused core next entries count log told same
     (subst (λ (l : List Told). IsShared formats g code refused core entries l) (sym (append-nil log) ∙ ap (λ (l : List Told). log ++ l) (sym none)) shared))
 
 -- a core that was just opened stands for its opening alone
-pub shared_first : (formats : Formats) {D P : Type 0} (g : Ghosts D) (code : Coded D) (refused : P → ℕ) (files held : List MountedFile) (core : Core D P) → held ≡ files → StandsIn formats (store_at files) core (λ r. no_record) (λ p. None) first_world
+pub shared_first : (formats : Formats) {D P : Type 0} (g : Ghosts D) (code : Coded D) (refused : P → ℕ)
+    (files held : List MountedFile) (core : Core D P) → held ≡ files
+    → StandsIn formats (store_at files) core (λ r. no_record) (λ p. None) first_world
     → IsShared formats g code refused core 1 (Opened (opening_of code held core.journal (refused core.patterns) core.wrote) ∷ [])
 shared_first formats g code refused files held core same st =
     subst (λ (fs : List MountedFile). IsShared formats g code refused core 1 (Opened (opening_of code fs core.journal (refused core.patterns) core.wrote) ∷ [])) (sym same) (record {
@@ -93,7 +97,9 @@ shared_first formats g code refused files held core same st =
     })
 
 -- what was flushed stands for the story that it stood for, whatever came of it
-pub shared_flushed : (formats : Formats) {D P : Type 0} (g : Ghosts D) (code : Coded D) (refused : P → ℕ) (core next : Core D P) (result : Result Bool DiskFailed) (entries : ℕ) (log : List Told) → FlushesStore g core next result
+pub shared_flushed : (formats : Formats) {D P : Type 0} (g : Ghosts D) (code : Coded D) (refused : P → ℕ)
+    (core next : Core D P) (result : Result Bool DiskFailed) (entries : ℕ) (log : List Told)
+    → FlushesStore g core next result
     → IsShared formats g code refused core entries log → IsShared formats g code refused next entries log
 shared_flushed formats {D} {P} g code refused core next result entries log flushed shared = record {
   opening = shared.opening;
@@ -120,7 +126,8 @@ shared_flushed formats {D} {P} g code refused core next result entries log flush
 
 -- how what is kept goes on, by the answer to a commit
 abbrev core_by : Store → cores.Core → ℕ → sets.Prepared → Result Done CommitFault → cores.Core
-core_by store old r set (Ok (done.Committed number aside)) = core_after store old r set (late.Commits (commit_of set) aside)
+core_by store old r set (Ok (done.Committed number aside)) =
+    core_after store old r set (late.Commits (commit_of set) aside)
 core_by store old r set (Ok (done.Same front aside)) = old
 core_by store old r set (Err why) = old
 
@@ -144,15 +151,24 @@ module _ (formats : Formats) {D P : Type 0} (g : Ghosts D) (code : Coded D) (ref
   abbrev next : cores.Core
   next = core_with after (put (handle_of rec) (record_of new) recs) sets_known
 
-  judged_next : (front aside : ℕ) → CommitMade formats store old (handle_of rec) 0 front (late.Commits (commit_of now) aside) next → next ≡ core_after store old (handle_of rec) now (late.Commits (commit_of now) aside)
+  judged_next : (front aside : ℕ)
+      → CommitMade formats store old (handle_of rec) 0 front (late.Commits (commit_of now) aside) next
+      → next ≡ core_after store old (handle_of rec) now (late.Commits (commit_of now) aside)
   judged_next front aside made =
-      made.next_is ∙ ap (λ (s : sets.Prepared). core_after store old (handle_of rec) s (late.Commits (commit_of now) aside)) (sym (some_is now made.judged.set made.judged.is_set))
+      made.next_is
+      ∙ ap (λ (s : sets.Prepared). core_after store old (handle_of rec) s (late.Commits (commit_of now) aside)) (sym (some_is now made.judged.set made.judged.is_set))
 
-  made_of : (answer other : event.Answer) → answer ≡ other → Made formats store old (event.Commit (handle_of rec) 0) answer next → Made formats store old (event.Commit (handle_of rec) 0) other next
-  made_of answer other is made = subst (λ (a : event.Answer). Made formats store old (event.Commit (handle_of rec) 0) a next) is made
+  made_of : (answer other : event.Answer) → answer ≡ other
+      → Made formats store old (event.Commit (handle_of rec) 0) answer next
+      → Made formats store old (event.Commit (handle_of rec) 0) other next
+  made_of answer other is made =
+      subst (λ (a : event.Answer). Made formats store old (event.Commit (handle_of rec) 0) a next) is made
 
-  next_by : (result : Result Done CommitFault) → HasMade formats store core after recs sets_known 0 rec new set risen result → next ≡ core_by store old (handle_of rec) now result
-  next_by (Ok (done.Committed number aside)) has = judged_next (length core.history.commits) aside (made_of has.answer _ has.is_answer.1 has.is_made)
+  next_by : (result : Result Done CommitFault)
+      → HasMade formats store core after recs sets_known 0 rec new set risen result
+      → next ≡ core_by store old (handle_of rec) now result
+  next_by (Ok (done.Committed number aside)) has =
+      judged_next (length core.history.commits) aside (made_of has.answer _ has.is_answer.1 has.is_made)
   next_by (Ok (done.Same front aside)) has = (made_of has.answer _ has.is_answer has.is_made).next_is
   next_by (Err (fault.Conflict mount by front)) has = (made_of has.answer _ has.is_answer.2 has.is_made).next_is
   next_by (Err (fault.FileTooLarge mount bytes front)) has = (made_of has.answer _ has.is_answer.2 has.is_made).next_is
@@ -171,7 +187,8 @@ module _ (formats : Formats) {D P : Type 0} (g : Ghosts D) (code : Coded D) (ref
   untold false = sym (append-nil core.history.commits)
 
   -- what the history gains
-  history_by : (result : Result Done CommitFault) → (core_by store old (handle_of rec) now result).history ≡ core.history.commits ++ commits_of (told_by now result)
+  history_by : (result : Result Done CommitFault)
+      → (core_by store old (handle_of rec) now result).history ≡ core.history.commits ++ commits_of (told_by now result)
   history_by (Ok (done.Committed number aside)) = refl
   history_by (Ok (done.Same front aside)) = sym (append-nil core.history.commits)
   history_by (Err (fault.Conflict mount by front)) = sym (append-nil core.history.commits)
@@ -182,44 +199,66 @@ module _ (formats : Formats) {D P : Type 0} (g : Ghosts D) (code : Coded D) (ref
   history_by (Err (fault.DiskFault front)) = sym (append-nil core.history.commits)
   history_by (Err fault.Memory) = sym (append-nil core.history.commits)
 
-  record_next : (result : Result Done CommitFault) → (core_by store old (handle_of rec) now result).records (handle_of rec) ≡ record_by store core.history.commits now result (record_of rec)
+  record_next : (result : Result Done CommitFault)
+      → (core_by store old (handle_of rec) now result).records (handle_of rec)
+      ≡ record_by store core.history.commits now result (record_of rec)
   record_next (Ok (done.Committed number aside)) =
-      put-here (handle_of rec) (record_by store core.history.commits now (Ok (done.Committed number aside)) (recs (handle_of rec))) recs ∙ ap (record_by store core.history.commits now (Ok (done.Committed number aside))) here
+      put-here (handle_of rec) (record_by store core.history.commits now (Ok (done.Committed number aside)) (recs (handle_of rec))) recs
+      ∙ ap (record_by store core.history.commits now (Ok (done.Committed number aside))) here
   record_next (Ok (done.Same front aside)) = here
   record_next (Err why) = here
 
   -- the record after a commit
-  pub record_after : (result : Result Done CommitFault) → HasMade formats store core after recs sets_known 0 rec new set risen result → record_of new ≡ record_by store core.history.commits now result (record_of rec)
-  record_after result has = sym (put-here (handle_of rec) (record_of new) recs) ∙ ap (λ (c : cores.Core). c.records (handle_of rec)) (next_by result has) ∙ record_next result
+  pub record_after : (result : Result Done CommitFault)
+      → HasMade formats store core after recs sets_known 0 rec new set risen result
+      → record_of new ≡ record_by store core.history.commits now result (record_of rec)
+  record_after result has =
+      sym (put-here (handle_of rec) (record_of new) recs)
+      ∙ ap (λ (c : cores.Core). c.records (handle_of rec)) (next_by result has) ∙ record_next result
 
   -- the run goes on by the story
   module _ (first last later : Run) (runs : RunsBy formats store (visible_keys files) first may.shared.rest last) where
     present : core.keys ≡ replay (visible_keys files) (commits_of may.shared.rest)
-    present = may.shared.keys ∙ ap (λ (fs : List MountedFile). replay (visible_keys fs) (commits_of may.shared.rest)) may.opening
+    present =
+        may.shared.keys
+        ∙ ap (λ (fs : List MountedFile). replay (visible_keys fs) (commits_of may.shared.rest)) may.opening
 
     runs_still : later ≡ last → RunsBy formats store (visible_keys files) first (may.shared.rest ++ []) later
-    runs_still same = subst (λ (run : Run). RunsBy formats store (visible_keys files) first (may.shared.rest ++ []) run) (sym same) (subst (λ (l : List Told). RunsBy formats store (visible_keys files) first l last) (sym (append-nil may.shared.rest)) runs)
+    runs_still same =
+        subst (λ (run : Run). RunsBy formats store (visible_keys files) first (may.shared.rest ++ []) run) (sym same) (subst (λ (l : List Told). RunsBy formats store (visible_keys files) first l last) (sym (append-nil may.shared.rest)) runs)
 
-    runs_refused : (b : Bool) → later ≡ last → RunsBy formats store (visible_keys files) first (may.shared.rest ++ cond b (Refused now.handle ∷ []) []) later
-    runs_refused true same = subst (λ (run : Run). RunsBy formats store (visible_keys files) first (may.shared.rest ++ Refused now.handle ∷ []) run) (sym same) (runs-refused formats store (visible_keys files) first last may.shared.rest now.handle runs)
+    runs_refused : (b : Bool) → later ≡ last
+        → RunsBy formats store (visible_keys files) first (may.shared.rest ++ cond b (Refused now.handle ∷ []) []) later
+    runs_refused true same =
+        subst (λ (run : Run). RunsBy formats store (visible_keys files) first (may.shared.rest ++ Refused now.handle ∷ []) run) (sym same) (runs-refused formats store (visible_keys files) first last may.shared.rest now.handle runs)
     runs_refused false same = runs_still same
 
-    on_by : (answer other : event.Answer) → answer ≡ other → RunsOn formats store core.keys last (Some now) answer later → RunsOn formats store core.keys last (Some now) other later
-    on_by answer other is on = subst (λ (a : event.Answer). RunsOn formats store core.keys last (Some now) a later) is on
+    on_by : (answer other : event.Answer) → answer ≡ other → RunsOn formats store core.keys last (Some now) answer later
+        → RunsOn formats store core.keys last (Some now) other later
+    on_by answer other is on =
+        subst (λ (a : event.Answer). RunsOn formats store core.keys last (Some now) a later) is on
 
-    runs_by : (result : Result Done CommitFault) (answer : event.Answer) → IsAnswer store.mounts risen (length core.history.commits) now result answer → RunsOn formats store core.keys last (Some now) answer later
+    runs_by : (result : Result Done CommitFault) (answer : event.Answer)
+        → IsAnswer store.mounts risen (length core.history.commits) now result answer
+        → RunsOn formats store core.keys last (Some now) answer later
         → RunsBy formats store (visible_keys files) first (may.shared.rest ++ told_by now result) later
     runs_by (Ok (done.Committed number aside)) answer is on =
         let to : later ≡ after_commit last (entry_of formats store core.keys (commit_of now)) = on_by answer (event.Judged (length core.history.commits) (late.Commits (commit_of now) aside)) is.1 on in
         subst (λ (run : Run). RunsBy formats store (visible_keys files) first (may.shared.rest ++ Committed (commit_of now) ∷ []) run)
         (sym (to ∙ ap (λ (keys : KeyMap). after_commit last (entry_of formats store keys (commit_of now))) present))
         (runs-committed formats store (visible_keys files) first last may.shared.rest (commit_of now) runs)
-    runs_by (Ok (done.Same front aside)) answer is on = runs_still (on_by answer (event.Judged front (late.Same aside)) is on)
-    runs_by (Err (fault.Conflict mount by front)) answer is on = runs_still (on_by answer (event.Judged front (late.Conflict is.0 by)) is.2 on)
-    runs_by (Err (fault.FileTooLarge mount bytes front)) answer is on = runs_still (on_by answer (event.Judged front (late.TooLarge is.0 bytes)) is.2 on)
-    runs_by (Err (fault.Invalid violation front)) answer is on = runs_refused (is_refusal violation) (on_by answer (event.Judged front (late.Invalid violation risen)) is on)
-    runs_by (Err (fault.DatabaseFull weight front)) answer is on = runs_still (on_by answer (event.Judged front (late.DatabaseFull weight)) is on)
-    runs_by (Err (fault.HistoryFull weight front)) answer is on = runs_still (on_by answer (event.Judged front (late.HistoryFull weight)) is on)
+    runs_by (Ok (done.Same front aside)) answer is on =
+        runs_still (on_by answer (event.Judged front (late.Same aside)) is on)
+    runs_by (Err (fault.Conflict mount by front)) answer is on =
+        runs_still (on_by answer (event.Judged front (late.Conflict is.0 by)) is.2 on)
+    runs_by (Err (fault.FileTooLarge mount bytes front)) answer is on =
+        runs_still (on_by answer (event.Judged front (late.TooLarge is.0 bytes)) is.2 on)
+    runs_by (Err (fault.Invalid violation front)) answer is on =
+        runs_refused (is_refusal violation) (on_by answer (event.Judged front (late.Invalid violation risen)) is on)
+    runs_by (Err (fault.DatabaseFull weight front)) answer is on =
+        runs_still (on_by answer (event.Judged front (late.DatabaseFull weight)) is on)
+    runs_by (Err (fault.HistoryFull weight front)) answer is on =
+        runs_still (on_by answer (event.Judged front (late.HistoryFull weight)) is on)
     runs_by (Err (fault.DiskFault front)) answer is on =
         let begun = on_by answer (event.Failed front) is on in
         subst (λ (run : Run). RunsBy formats store (visible_keys files) first (may.shared.rest ++ Failed (commit_of now) ∷ []) run)
@@ -228,46 +267,57 @@ module _ (formats : Formats) {D P : Type 0} (g : Ghosts D) (code : Coded D) (ref
         (subst (λ (keys : KeyMap). IsOneOf begun.0 last.doubt (entry_of formats store keys (commit_of now))) present begun.1))
     runs_by (Err fault.Memory) answer is on = runs_still (on_by answer event.Memory is on)
 
-  still : (n before : ℕ) → HasRisenBy n before (g.faults core.journal.disk) → g.faults core.journal.disk ≤ g.faults after.journal.disk → HasRisenBy (n + 0) before (g.faults after.journal.disk)
+  still : (n before : ℕ) → HasRisenBy n before (g.faults core.journal.disk)
+      → g.faults core.journal.disk ≤ g.faults after.journal.disk
+      → HasRisenBy (n + 0) before (g.faults after.journal.disk)
   still n before rose later =
       let same : n ≡ n + 0 = omega arith in
       subst (λ k. HasRisenBy k before (g.faults after.journal.disk)) same (risen-still n before (g.faults core.journal.disk) (g.faults after.journal.disk) rose later)
 
   -- what a call says of a refused pattern
   abbrev RefusalClause : Result Done CommitFault → Type 0
-  RefusalClause result = (violation : Violation) (front : ℕ) → result ≡ Err (fault.Invalid violation front) → violation.rule ≡ 6 → length violation.given ≤ longest_pattern → HasRisen (refused core.patterns) (refused after.patterns)
+  RefusalClause result =
+      (violation : Violation) (front : ℕ) → result ≡ Err (fault.Invalid violation front) → violation.rule ≡ 6 → length violation.given ≤ longest_pattern → HasRisen (refused core.patterns) (refused after.patterns)
 
   -- the count of faults rises by those that are told
-  faults_by : (result : Result Done CommitFault) (n before : ℕ) → HasRisenBy n before (g.faults core.journal.disk) → g.faults core.journal.disk ≤ g.faults after.journal.disk
-      → ((front : ℕ) → result ≡ Err (fault.DiskFault front) → HasRisen (g.faults core.journal.disk) (g.faults after.journal.disk)) → HasRisenBy (n + failures_in (told_by now result)) before (g.faults after.journal.disk)
+  faults_by : (result : Result Done CommitFault) (n before : ℕ) → HasRisenBy n before (g.faults core.journal.disk)
+      → g.faults core.journal.disk ≤ g.faults after.journal.disk
+      → ((front : ℕ) → result ≡ Err (fault.DiskFault front) → HasRisen (g.faults core.journal.disk) (g.faults after.journal.disk))
+      → HasRisenBy (n + failures_in (told_by now result)) before (g.faults after.journal.disk)
   faults_by (Ok (done.Committed number aside)) n before rose later cause = still n before rose later
   faults_by (Ok (done.Same front aside)) n before rose later cause = still n before rose later
   faults_by (Err (fault.Conflict mount by front)) n before rose later cause = still n before rose later
   faults_by (Err (fault.FileTooLarge mount bytes front)) n before rose later cause = still n before rose later
   faults_by (Err (fault.Invalid violation front)) n before rose later cause = by (is_refusal violation)
     where
-      by : (b : Bool) → HasRisenBy (n + failures_in (cond b (Refused now.handle ∷ []) [])) before (g.faults after.journal.disk)
+      by : (b : Bool)
+          → HasRisenBy (n + failures_in (cond b (Refused now.handle ∷ []) [])) before (g.faults after.journal.disk)
       by true = still n before rose later
       by false = still n before rose later
   faults_by (Err (fault.DatabaseFull weight front)) n before rose later cause = still n before rose later
   faults_by (Err (fault.HistoryFull weight front)) n before rose later cause = still n before rose later
-  faults_by (Err (fault.DiskFault front)) n before rose later cause = risen-once n before (g.faults core.journal.disk) (g.faults after.journal.disk) rose (cause front refl) later
+  faults_by (Err (fault.DiskFault front)) n before rose later cause =
+      risen-once n before (g.faults core.journal.disk) (g.faults after.journal.disk) rose (cause front refl) later
   faults_by (Err fault.Memory) n before rose later cause = still n before rose later
 
-  unrefused : (n before : ℕ) → HasRisenBy n before (refused core.patterns) → refused core.patterns ≤ refused after.patterns → HasRisenBy (n + 0) before (refused after.patterns)
+  unrefused : (n before : ℕ) → HasRisenBy n before (refused core.patterns)
+      → refused core.patterns ≤ refused after.patterns → HasRisenBy (n + 0) before (refused after.patterns)
   unrefused n before rose later =
       let same : n ≡ n + 0 = omega arith in
       subst (λ k. HasRisenBy k before (refused after.patterns)) same (risen-still n before (refused core.patterns) (refused after.patterns) rose later)
 
   -- and the count of refusals by those
-  refusals_by : (result : Result Done CommitFault) (n before : ℕ) → HasRisenBy n before (refused core.patterns) → refused core.patterns ≤ refused after.patterns → RefusalClause result → HasRisenBy (n + refusals_in (told_by now result)) before (refused after.patterns)
+  refusals_by : (result : Result Done CommitFault) (n before : ℕ) → HasRisenBy n before (refused core.patterns)
+      → refused core.patterns ≤ refused after.patterns → RefusalClause result
+      → HasRisenBy (n + refusals_in (told_by now result)) before (refused after.patterns)
   refusals_by (Ok (done.Committed number aside)) n before rose later cause = unrefused n before rose later
   refusals_by (Ok (done.Same front aside)) n before rose later cause = unrefused n before rose later
   refusals_by (Err (fault.Conflict mount by front)) n before rose later cause = unrefused n before rose later
   refusals_by (Err (fault.FileTooLarge mount bytes front)) n before rose later cause = unrefused n before rose later
   refusals_by (Err (fault.Invalid violation front)) n before rose later cause = by (is_refusal violation) refl
     where
-      by : (b : Bool) → is_refusal violation ≡ b → HasRisenBy (n + refusals_in (cond b (Refused now.handle ∷ []) [])) before (refused after.patterns)
+      by : (b : Bool) → is_refusal violation ≡ b
+          → HasRisenBy (n + refusals_in (cond b (Refused now.handle ∷ []) [])) before (refused after.patterns)
       by false is = unrefused n before rose later
       by true is =
           risen-once n before (refused core.patterns) (refused after.patterns) rose
@@ -284,28 +334,37 @@ module _ (formats : Formats) {D P : Type 0} (g : Ghosts D) (code : Coded D) (ref
   abbrev Idles : Type 0
   Idles = (after.journal ≡ may.shared.journal) × (after.wrote ≡ may.shared.opening.wrote)
 
-  idle_still : (told : List Told) → IsUnwritten core after → BeginsNone (may.shared.rest ++ told) → may.shared.journal.list ≡ [] → Idles
-  idle_still told unwritten none empty = let was = may.shared.idle (begins_none-before may.shared.rest told none) empty in (unwritten.journal ∙ was.0, unwritten.wrote ∙ was.1)
+  idle_still : (told : List Told) → IsUnwritten core after → BeginsNone (may.shared.rest ++ told)
+      → may.shared.journal.list ≡ [] → Idles
+  idle_still told unwritten none empty =
+      let was = may.shared.idle (begins_none-before may.shared.rest told none) empty in (unwritten.journal ∙ was.0, unwritten.wrote ∙ was.1)
 
   -- where no set was begun, the journal is as the opening left it
-  idle_by : (result : Result Done CommitFault) → UnwrittenClause result → BeginsNone (may.shared.rest ++ told_by now result) → may.shared.journal.list ≡ [] → Idles
-  idle_by (Ok (done.Committed number aside)) unwritten none empty = absurd (begins-commit may.shared.rest (commit_of now) none)
+  idle_by : (result : Result Done CommitFault) → UnwrittenClause result
+      → BeginsNone (may.shared.rest ++ told_by now result) → may.shared.journal.list ≡ [] → Idles
+  idle_by (Ok (done.Committed number aside)) unwritten none empty =
+      absurd (begins-commit may.shared.rest (commit_of now) none)
   idle_by (Ok (done.Same front aside)) unwritten none empty = idle_still [] (unwritten refl) none empty
   idle_by (Err (fault.Conflict mount by front)) unwritten none empty = idle_still [] (unwritten refl) none empty
   idle_by (Err (fault.FileTooLarge mount bytes front)) unwritten none empty = idle_still [] (unwritten refl) none empty
-  idle_by (Err (fault.Invalid violation front)) unwritten none empty = idle_still (told_by now (Err (fault.Invalid violation front))) (unwritten refl) none empty
+  idle_by (Err (fault.Invalid violation front)) unwritten none empty =
+      idle_still (told_by now (Err (fault.Invalid violation front))) (unwritten refl) none empty
   idle_by (Err (fault.DatabaseFull weight front)) unwritten none empty = idle_still [] (unwritten refl) none empty
   idle_by (Err (fault.HistoryFull weight front)) unwritten none empty = idle_still [] (unwritten refl) none empty
-  idle_by (Err (fault.DiskFault front)) unwritten none empty = absurd (begins-failure may.shared.rest (commit_of now) none)
+  idle_by (Err (fault.DiskFault front)) unwritten none empty =
+      absurd (begins-failure may.shared.rest (commit_of now) none)
   idle_by (Err fault.Memory) unwritten none empty = idle_still [] (unwritten refl) none empty
 
   -- the core stands for the story with what the turn told
-  pub shared_next : (result : Result Done CommitFault) (told : List Told) (count : ℕ) → told ≡ told_by now result → count ≡ entries + length told
+  pub shared_next : (result : Result Done CommitFault) (told : List Told) (count : ℕ) → told ≡ told_by now result
+      → count ≡ entries + length told
       → HasMade formats store core after recs sets_known 0 rec new set risen result
       → ((start : D) (run : Run) → Belongs formats g store start core recs sets_known (world formats g code refused files core entries log rec set may) run 0 rec set
       → HasAnswered formats g store start core after recs sets_known run 0 rec new set risen result)
-      → GoesOn g core.journal.disk after.journal.disk → ((front : ℕ) → result ≡ Err (fault.DiskFault front) → HasRisen (g.faults core.journal.disk) (g.faults after.journal.disk))
-      → refused core.patterns ≤ refused after.patterns → RefusalClause result → UnwrittenClause result → after.start ≡ core.start
+      → GoesOn g core.journal.disk after.journal.disk
+      → ((front : ℕ) → result ≡ Err (fault.DiskFault front) → HasRisen (g.faults core.journal.disk) (g.faults after.journal.disk))
+      → refused core.patterns ≤ refused after.patterns → RefusalClause result → UnwrittenClause result
+      → after.start ≡ core.start
       → IsShared formats g code refused after count (log ++ told)
   shared_next result told count told_is counted has answers goes cause more refusal unwritten stays =
       let shared = may.shared in
@@ -354,7 +413,8 @@ module _ (formats : Formats) {D P : Type 0} (g : Ghosts D) (code : Coded D) (ref
       }
 
   -- and the record is that of its fronts in the history then
-  pub record_kept : (result : Result Done CommitFault) (told : List Told) → told ≡ told_by now result → HasMade formats store core after recs sets_known 0 rec new set risen result
+  pub record_kept : (result : Result Done CommitFault) (told : List Told) → told ≡ told_by now result
+      → HasMade formats store core after recs sets_known 0 rec new set risen result
       → IsRecord store (commits_of (log ++ told)) (handle_of rec) (front_in (record_of new)) (record_of new)
   record_kept result told told_is has =
       let shared = may.shared in
@@ -371,23 +431,31 @@ module _ (formats : Formats) {D P : Type 0} (g : Ghosts D) (code : Coded D) (ref
   -- ---- the same, from the clauses of the call
 
   abbrev MadeClause : Result Done CommitFault → Type 0
-  MadeClause result = (procs : ℕ → KeyMap) (rs : ℕ → model.Record) (ss : ℕ → Option sets.Prepared) (w : World) (p : ℕ) → BelongsIn formats (store_of files procs) core rs ss w p rec set → HasMade formats (store_of files procs) core after rs ss p rec new set risen result
+  MadeClause result =
+      (procs : ℕ → KeyMap) (rs : ℕ → model.Record) (ss : ℕ → Option sets.Prepared) (w : World) (p : ℕ) → BelongsIn formats (store_of files procs) core rs ss w p rec set → HasMade formats (store_of files procs) core after rs ss p rec new set risen result
 
-  made_here : (result : Result Done CommitFault) → MadeClause result → HasMade formats store core after recs sets_known 0 rec new set risen result
-  made_here result clause = clause (λ r. no_keys) recs sets_known (world formats g code refused files core entries log rec set may) 0 (belongs_in formats g code refused files core entries log rec set may)
+  made_here : (result : Result Done CommitFault) → MadeClause result
+      → HasMade formats store core after recs sets_known 0 rec new set risen result
+  made_here result clause =
+      clause (λ r. no_keys) recs sets_known (world formats g code refused files core entries log rec set may) 0 (belongs_in formats g code refused files core entries log rec set may)
 
-  pub next_shared : (result : Result Done CommitFault) (told : List Told) (count : ℕ) → told ≡ told_by now result → count ≡ entries + length (told_by now result) → MadeClause result
+  pub next_shared : (result : Result Done CommitFault) (told : List Told) (count : ℕ) → told ≡ told_by now result
+      → count ≡ entries + length (told_by now result) → MadeClause result
       → ((procs : ℕ → KeyMap) (start : D) (rs : ℕ → model.Record) (ss : ℕ → Option sets.Prepared) (w : World) (run : Run) (p : ℕ) → Belongs formats g (store_of files procs) start core rs ss w run p rec set
       → HasAnswered formats g (store_of files procs) start core after rs ss run p rec new set risen result)
-      → GoesOn g core.journal.disk after.journal.disk → ((front : ℕ) → result ≡ Err (fault.DiskFault front) → HasRisen (g.faults core.journal.disk) (g.faults after.journal.disk))
-      → refused core.patterns ≤ refused after.patterns → RefusalClause result → UnwrittenClause result → after.start ≡ core.start
+      → GoesOn g core.journal.disk after.journal.disk
+      → ((front : ℕ) → result ≡ Err (fault.DiskFault front) → HasRisen (g.faults core.journal.disk) (g.faults after.journal.disk))
+      → refused core.patterns ≤ refused after.patterns → RefusalClause result → UnwrittenClause result
+      → after.start ≡ core.start
       → IsShared formats g code refused after count (log ++ told)
   next_shared result told count told_is counted made answered goes cause more refusal unwritten stays =
       shared_next result told count told_is (counted ∙ ap (λ (l : List Told). entries + length l) (sym told_is)) (made_here result made)
       (λ start run b. answered (λ r. no_keys) start recs sets_known (world formats g code refused files core entries log rec set may) run 0 b) goes cause more refusal unwritten stays
 
-  pub next_kept : (result : Result Done CommitFault) (told : List Told) → told ≡ told_by now result → MadeClause result → IsRecord store (commits_of (log ++ told)) (handle_of rec) (front_in (record_of new)) (record_of new)
+  pub next_kept : (result : Result Done CommitFault) (told : List Told) → told ≡ told_by now result → MadeClause result
+      → IsRecord store (commits_of (log ++ told)) (handle_of rec) (front_in (record_of new)) (record_of new)
   next_kept result told told_is made = record_kept result told told_is (made_here result made)
 
-  pub next_record : (result : Result Done CommitFault) → MadeClause result → record_of new ≡ record_by store core.history.commits now result (record_of rec)
+  pub next_record : (result : Result Done CommitFault) → MadeClause result
+      → record_of new ≡ record_by store core.history.commits now result (record_of rec)
   next_record result made = record_after result (made_here result made)

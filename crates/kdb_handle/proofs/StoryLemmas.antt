@@ -31,7 +31,10 @@ pub begins_none-before : (log more : List Told) → BeginsNone (log ++ more) →
 begins_none-before log more none =
     let commits = sym (commits-append log more) ∙ none.commits in
     let failures = sym (failures-append log more) ∙ none.failures in
-    record { commits = nil_from_length (commits_of log) (omega (arith, ap length commits, length-append (commits_of log) (commits_of more))); failures = omega arith }
+    record {
+      commits = nil_from_length (commits_of log) (omega (arith, ap length commits, length-append (commits_of log) (commits_of more)));
+      failures = omega arith;
+    }
 
 -- where one is told, one was begun
 pub begins-commit : (log : List Told) (commit : Commit) → BeginsNone (log ++ Committed commit ∷ []) → ⊥
@@ -39,14 +42,16 @@ begins-commit log commit none =
     omega (arith, ap length (sym (commits-append log (Committed commit ∷ [])) ∙ none.commits), length-append (commits_of log) (commit ∷ []))
 
 pub begins-failure : (log : List Told) (commit : Commit) → BeginsNone (log ++ Failed commit ∷ []) → ⊥
-begins-failure log commit none = let one : failures_in (log ++ Failed commit ∷ []) ≡ failures_in log + 1 = failures-append log (Failed commit ∷ []) in omega (arith, one, none.failures)
+begins-failure log commit none =
+    let one : failures_in (log ++ Failed commit ∷ []) ≡ failures_in log + 1 = failures-append log (Failed commit ∷ []) in omega (arith, one, none.failures)
 
 -- who has seen more of the story has seen more of its history
 pub commits-prefix : (log longer : List Told) → IsPrefix log longer → IsPrefix (commits_of log) (commits_of longer)
 commits-prefix log longer p = (commits_of p.0, sym (commits-append log p.0) ∙ ap commits_of p.1)
 
 -- it gains the commits of what the story gains
-pub commits-behind : (log longer : List Told) → (p : IsPrefix log longer) → (commits-prefix log longer p).0 ≡ commits_of p.0
+pub commits-behind : (log longer : List Told) → (p : IsPrefix log longer)
+    → (commits-prefix log longer p).0 ≡ commits_of p.0
 unfolding commits-prefix
 commits-behind log longer p = refl
 
@@ -58,7 +63,8 @@ opened_by other (Committed commit ∷ log) = other
 opened_by other (Failed commit ∷ log) = other
 opened_by other (Refused handle ∷ log) = other
 
-pub one_opening : (first second : Opening) (log rest : List Told) → IsPrefix (Opened first ∷ []) log → log ≡ Opened second ∷ rest → first ≡ second
+pub one_opening : (first second : Opening) (log rest : List Told) → IsPrefix (Opened first ∷ []) log
+    → log ≡ Opened second ∷ rest → first ≡ second
 one_opening first second log rest p is = ap (opened_by first) (p.1 ∙ is)
 
 -- two lists of which each begins the other are one

@@ -22,9 +22,12 @@ use Rattle.store_verdict.specs.RecordView.{handle_of, record_of}
 use Rattle.store_verdict.specs.declared.prepared.Prepared.{Prepared}
 use Rattle.store_verdict.specs.declared.records.Record.{Record}
 
-pub turn_commits : (formats : Formats) {D F P : Type 0} (g : Ghosts D) (code : Coded D) (refused : P → ℕ) (files : List MountedFile) (old new : Shared D F P) (after : Core D P) (rec left : Record) (set : Prepared) (result : Result Done CommitFault)
+pub turn_commits : (formats : Formats) {D F P : Type 0} (g : Ghosts D) (code : Coded D) (refused : P → ℕ)
+    (files : List MountedFile) (old new : Shared D F P) (after : Core D P) (rec left : Record) (set : Prepared)
+    (result : Result Done CommitFault)
     → CommitsSet formats g refused files old.core after rec left set result → new.core ≡ after
-    → told_now new.fresh ≡ told_by (prepared_of set) result → new.entries ≡ old.entries + length (told_by (prepared_of set) result)
+    → told_now new.fresh ≡ told_by (prepared_of set) result
+    → new.entries ≡ old.entries + length (told_by (prepared_of set) result)
     → Commits formats g code refused files old new rec left set result
 turn_commits formats {D} {F} {P} g code refused files old new after rec left set result call core_is told_is counted =
     let risen : Bool = has_risen (refused old.core.patterns) (refused after.patterns) in

@@ -34,7 +34,8 @@ use Rattle.store_verdict.specs.RecordView.{handle_of, proc_of, record_of}
 use Rattle.store_verdict.specs.declared.records.Record.{Record}
 
 -- an undoing tells what its set does, or nothing
-undo-told : (number : ℕ) (set : sets.Prepared) (result : Result Done UndoFault) → set.handle ≡ number → IsOneTurn maker_of number (told_by_undo set result)
+undo-told : (number : ℕ) (set : sets.Prepared) (result : Result Done UndoFault) → set.handle ≡ number
+    → IsOneTurn maker_of number (told_by_undo set result)
 undo-told number set (Ok made) is = one_turn number set (Ok made) is
 undo-told number set (Err (undo_fault.Set (set_fault.Commit why))) is = one_turn number set (Err why) is
 undo-told number set (Err (undo_fault.Set (set_fault.Prepare why))) is = inl refl
@@ -51,10 +52,13 @@ module _ (formats : Formats) (undo : Undo) (handle : ℕ) (covers : Cover (store
       cover-keeping (store_at undo.files) handle undo.history (involved_in points (parent_of undo)) (length undo.history) (wants points (replay (store_at undo.files).start undo.history)) undo.rec (omega arith) covers
 
   abbrev CoverAll : Result Done UndoFault → model.Record → Type 0
-  CoverAll result rec = Cover (store_at undo.files) handle (undo.history ++ commits_of (told_by_undo (set_made undo) result)) (front_in rec)
+  CoverAll result rec =
+      Cover (store_at undo.files) handle (undo.history ++ commits_of (told_by_undo (set_made undo) result)) (front_in rec)
 
-  as-before : (result : Result Done UndoFault) → commits_of (told_by_undo (set_made undo) result) ≡ [] → left ≡ undo.rec → CoverAll result left
-  as-before result none same = subst (CoverAll result) (sym same) (same-history (store_at undo.files) handle undo.history _ (front_in undo.rec) none covers)
+  as-before : (result : Result Done UndoFault) → commits_of (told_by_undo (set_made undo) result) ≡ [] → left ≡ undo.rec
+      → CoverAll result left
+  as-before result none same =
+      subst (CoverAll result) (sym same) (same-history (store_at undo.files) handle undo.history _ (front_in undo.rec) none covers)
 
   undo-covers : (result : Result Done UndoFault) → IsUndoneBy formats undo keys left after result → CoverAll result left
   undo-covers (Ok (done.Committed commit aside)) undone =
@@ -64,8 +68,10 @@ module _ (formats : Formats) (undo : Undo) (handle : ℕ) (covers : Cover (store
       subst (CoverAll (Err (undo_fault.Set (set_fault.Commit why)))) (sym undone.left_is) (cover-judged (store_at undo.files) undo.history handle (set_made undo) (rec_got undo) (Err why) got-covers)
   undo-covers (Err (undo_fault.Set (set_fault.Prepare why))) undone =
       subst (CoverAll (Err (undo_fault.Set (set_fault.Prepare why)))) (sym undone.left_is) (same-history (store_at undo.files) handle undo.history _ (front_in (rec_got undo)) refl got-covers)
-  undo-covers (Err (undo_fault.NoCommit told front)) undone = as-before (Err (undo_fault.NoCommit told front)) refl undone.1
-  undo-covers (Err (undo_fault.Overtaken name by front)) undone = as-before (Err (undo_fault.Overtaken name by front)) refl undone.1
+  undo-covers (Err (undo_fault.NoCommit told front)) undone =
+      as-before (Err (undo_fault.NoCommit told front)) refl undone.1
+  undo-covers (Err (undo_fault.Overtaken name by front)) undone =
+      as-before (Err (undo_fault.Overtaken name by front)) refl undone.1
   undo-covers (Err (undo_fault.Get why)) undone = as-before (Err (undo_fault.Get why)) refl undone.1
   undo-covers (Err undo_fault.Memory) undone = as-before (Err undo_fault.Memory) refl undone.1
 
@@ -74,27 +80,44 @@ module _ (formats : Formats) (undo : Undo) (handle : ℕ) (covers : Cover (store
 module _ {F : Type 0} (lock : Place Told) (plan : Plan F) (old : HandleValue) (seat : Known Told) (rec : Record) (old_is : handle_with (Some seat) rec ≡ old) (is : IsHandle lock plan old)
     {D P : Type 0} (formats : Formats) (g : Ghosts D) (code : Coded D) (refused : P → ℕ) (core : Core D P) (entries : ℕ) (found : List Told) (seen : IsPrefix seat.seen found) (shared : IsShared formats g code refused core entries found) where
   module _ (own_number : handle_of rec ≡ seat.number) (number : ℕ) where
-    pub may_take : made_by maker_of seat.number found ≡ seat.own → MayUndo formats g code refused plan.mounted core entries found rec
-    may_take made = may_undo formats g code refused lock plan (taken lock plan old seat rec old_is is) core entries found (taken_is lock plan old seat rec old_is is) seen shared own_number made
+    pub may_take : made_by maker_of seat.number found ≡ seat.own
+        → MayUndo formats g code refused plan.mounted core entries found rec
+    may_take made =
+        may_undo formats g code refused lock plan (taken lock plan old seat rec old_is is) core entries found (taken_is lock plan old seat rec old_is is) seen shared own_number made
 
     abbrev undo : Undo
     undo = undo_in plan.mounted rec found number
 
-    pub undo_turn : (result : Result Done UndoFault) (told : List Told) → told ≡ told_by_undo (set_made undo) result → IsOneTurn maker_of seat.number told
-    undo_turn result told is_told = subst (IsOneTurn maker_of seat.number) (sym is_told) (undo-told seat.number (set_made undo) result own_number)
+    pub undo_turn : (result : Result Done UndoFault) (told : List Told) → told ≡ told_by_undo (set_made undo) result
+        → IsOneTurn maker_of seat.number told
+    undo_turn result told is_told =
+        subst (IsOneTurn maker_of seat.number) (sym is_told) (undo-told seat.number (set_made undo) result own_number)
 
-    pub undo_covers : (keys after : KeyMap) (new : Record) (result : Result Done UndoFault) (told : List Told) → made_by maker_of seat.number found ≡ seat.own → told ≡ told_by_undo (set_made undo) result
-        → IsUndoneBy formats undo keys (record_of new) after result → Cover (store_at plan.mounted) seat.number (commits_of (found ++ told)) (front_in (record_of new))
+    pub undo_covers : (keys after : KeyMap) (new : Record) (result : Result Done UndoFault) (told : List Told)
+        → made_by maker_of seat.number found ≡ seat.own → told ≡ told_by_undo (set_made undo) result
+        → IsUndoneBy formats undo keys (record_of new) after result
+        → Cover (store_at plan.mounted) seat.number (commits_of (found ++ told)) (front_in (record_of new))
     undo_covers keys after new result told made is_told undone =
         subst (λ (cs : List Commit). Cover (store_at plan.mounted) seat.number cs (front_in (record_of new))) (sym (commits-append found told ∙ ap (λ (l : List Told). commits_of found ++ commits_of l) is_told))
         (undo-covers formats undo seat.number (covers_found lock plan old seat rec old_is is formats g code refused core entries found seen shared made) keys after (record_of new) result undone)
 
     -- by the number of the seat
     abbrev undo_of : ℕ → Undo
-    undo_of n = record { files = plan.mounted; handle = n; procs = proc_of rec; rec = record_of rec; history = commits_of found; number = number }
+    undo_of n =
+        record {
+          files = plan.mounted;
+          handle = n;
+          procs = proc_of rec;
+          rec = record_of rec;
+          history = commits_of found;
+          number = number;
+        }
 
-    pub undone_so : (keys after : KeyMap) (new : HandleValue) (result : Result Done UndoFault) (told : List Told) → made_by maker_of seat.number found ≡ seat.own → told ≡ told_by_undo (set_made undo) result
-        → new.seen ≡ found ++ told → new.own ≡ seat.own ++ told → IsUndoneBy formats undo keys (record_of new.rec) after result → IsUndone formats plan.mounted old new number keys after result
+    pub undone_so : (keys after : KeyMap) (new : HandleValue) (result : Result Done UndoFault) (told : List Told)
+        → made_by maker_of seat.number found ≡ seat.own → told ≡ told_by_undo (set_made undo) result
+        → new.seen ≡ found ++ told → new.own ≡ seat.own ++ told
+        → IsUndoneBy formats undo keys (record_of new.rec) after result
+        → IsUndone formats plan.mounted old new number keys after result
     undone_so keys after new result told made is_told sees gains undone =
         let tells = is_told ∙ ap (λ (n : ℕ). told_by_undo (set_made (undo_of n)) result) own_number in
         subst (λ (o : HandleValue). IsUndone formats plan.mounted o new number keys after result) old_is (record {

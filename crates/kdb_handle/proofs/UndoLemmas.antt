@@ -77,7 +77,9 @@ tells_unfetched (prepare_fault.NotFetched mount) = true
 tells_unfetched why = false
 
 -- another fault at a mount doesn't
-told_other : (told : Name → PrepareFault) → ((at : Name) → tells_unfetched (told at) ≡ false) → (o : Option Mount) (mount : Name) → option_map (λ (m : Mount). told m.at) o ≡ Some (prepare_fault.NotFetched mount) → ⊥
+told_other : (told : Name → PrepareFault) → ((at : Name) → tells_unfetched (told at) ≡ false)
+    → (o : Option Mount) (mount : Name)
+    → option_map (λ (m : Mount). told m.at) o ≡ Some (prepare_fault.NotFetched mount) → ⊥
 told_other told other None mount is = absurd cc
 told_other told other (Some m) mount is =
     let on : Some (tells_unfetched (told m.at)) ≡ Some true = ap (option_map tells_unfetched) is in
@@ -85,15 +87,20 @@ told_other told other (Some m) mount is =
     absurd cc
 
 module _ (formats : Formats) (store : Store) (set : sets.Prepared) (fetched : (m : ℕ) → IsEarly formats store set (Some (early.NotFetched m)) → ⊥) where
-  unfetched : (why : Early) (mount : Name) → IsEarly formats store set (Some why) → fault_of store.mounts why ≡ Some (prepare_fault.NotFetched mount) → ⊥
+  unfetched : (why : Early) (mount : Name) → IsEarly formats store set (Some why)
+      → fault_of store.mounts why ≡ Some (prepare_fault.NotFetched mount) → ⊥
   unfetched (early.NotFetched m) mount is tells = fetched m is
   unfetched (early.ValueTooLong key bytes) mount is tells = absurd cc
-  unfetched (early.TooHeavy m weight) mount is tells = told_other (λ at. prepare_fault.FileTooLarge at weight) (λ at. refl) _ mount tells
-  unfetched (early.NotStorable m key) mount is tells = told_other (λ at. prepare_fault.NotStorable at key) (λ at. refl) _ mount tells
-  unfetched (early.TooLong m bytes) mount is tells = told_other (λ at. prepare_fault.FileTooLarge at bytes) (λ at. refl) _ mount tells
+  unfetched (early.TooHeavy m weight) mount is tells =
+      told_other (λ at. prepare_fault.FileTooLarge at weight) (λ at. refl) _ mount tells
+  unfetched (early.NotStorable m key) mount is tells =
+      told_other (λ at. prepare_fault.NotStorable at key) (λ at. refl) _ mount tells
+  unfetched (early.TooLong m bytes) mount is tells =
+      told_other (λ at. prepare_fault.FileTooLarge at bytes) (λ at. refl) _ mount tells
   unfetched (early.BadTable why) mount is tells = absurd cc
 
-  prepare_can : (why : PrepareFault) → wants_memory (set_fault.Prepare why) ≡ false → IsRefusedSet formats store set why → CanRefuse (set_fault.Prepare why)
+  prepare_can : (why : PrepareFault) → wants_memory (set_fault.Prepare why) ≡ false → IsRefusedSet formats store set why
+      → CanRefuse (set_fault.Prepare why)
   prepare_can (prepare_fault.NotFetched mount) known is = unfetched is.early mount is.refused is.is
   prepare_can (prepare_fault.ValueTooLong key bytes) known is = tt
   prepare_can (prepare_fault.NotStorable mount key) known is = tt
@@ -133,8 +140,10 @@ module _ (formats : Formats) {D P : Type 0} (g : Ghosts D) (code : Coded D) (ref
 
   -- ---- the inverse
 
-  inverse_is : (changes : List Change) → IsInverse core.start core.history.commits number changes → IsInverse store.start history number changes
-  inverse_is changes is = subst (λ (cs : List Commit). IsInverse store.start cs number changes) history_is (subst (λ (k : KeyMap). IsInverse k core.history.commits number changes) start_is is)
+  inverse_is : (changes : List Change) → IsInverse core.start core.history.commits number changes
+      → IsInverse store.start history number changes
+  inverse_is changes is =
+      subst (λ (cs : List Commit). IsInverse store.start cs number changes) history_is (subst (λ (k : KeyMap). IsInverse k core.history.commits number changes) start_is is)
 
   -- ---- the get
 
@@ -157,8 +166,12 @@ module _ (formats : Formats) {D P : Type 0} (g : Ghosts D) (code : Coded D) (ref
           (subst (λ n. IsGotAt (store_of files own) files history n parent (record_of copied) (record_of new) result) handle here))
 
       -- what was got and made
-      pub fetched : (changes : List Change) → IsInverse core.start core.history.commits number changes → IsPoints (points_at mounts) → handle_of new ≡ handle_of copied → places_of new ≡ places_of copied → places_of copied ≡ places_of rec → proc_of new ≡ proc_of copied
-          → (got : Got) → result ≡ Ok got → (made : KeyMap) → made ≡ changed_by (over change_of changes) got.keys → (fetching : Fetching) → fetching.parent ≡ parent → fetching.rec ≡ new → fetching.got ≡ got.keys → fetching.made ≡ made → IsFetched undo rec fetching
+      pub fetched : (changes : List Change) → IsInverse core.start core.history.commits number changes
+          → IsPoints (points_at mounts) → handle_of new ≡ handle_of copied → places_of new ≡ places_of copied
+          → places_of copied ≡ places_of rec → proc_of new ≡ proc_of copied
+          → (got : Got) → result ≡ Ok got → (made : KeyMap) → made ≡ changed_by (over change_of changes) got.keys
+          → (fetching : Fetching) → fetching.parent ≡ parent → fetching.rec ≡ new → fetching.got ≡ got.keys
+          → fetching.made ≡ made → IsFetched undo rec fetching
       fetched changes inverted points new_handle new_places places new_procs got is made made_is fetching the_parent the_rec the_got the_made =
           let gives : Gives (store_of files own) history (handle_of rec) (parent_of undo) (record_of rec) (record_of new) got =
           subst (IsGotAt (store_of files own) files history (handle_of rec) (parent_of undo) (record_of rec) (record_of new)) is got_here in
@@ -176,29 +189,46 @@ module _ (formats : Formats) {D P : Type 0} (g : Ghosts D) (code : Coded D) (ref
           }
 
       -- a get that is refused
-      pub ungot : (changes : List Change) → IsInverse core.start core.history.commits number changes → (why : GetFault) → result ≡ Err why → IsBarred undo (of_get why)
-      ungot changes inverted why is = by why (subst (IsGotAt (store_of files own) files history (handle_of rec) (parent_of undo) (record_of rec) (record_of new)) is got_here)
+      pub ungot : (changes : List Change) → IsInverse core.start core.history.commits number changes → (why : GetFault)
+          → result ≡ Err why → IsBarred undo (of_get why)
+      ungot changes inverted why is =
+          by why (subst (IsGotAt (store_of files own) files history (handle_of rec) (parent_of undo) (record_of rec) (record_of new)) is got_here)
         where
           there : IsThere history number
           there = (inverse_is changes inverted).there
 
-          by : (why : GetFault) → IsGotAt (store_of files own) files history (handle_of rec) (parent_of undo) (record_of rec) (record_of new) (Err why) → IsBarred undo (of_get why)
+          by : (why : GetFault)
+              → IsGotAt (store_of files own) files history (handle_of rec) (parent_of undo) (record_of rec) (record_of new) (Err why)
+              → IsBarred undo (of_get why)
           by get_fault.Memory refuses = tt
           by (get_fault.BadFile mount line) (inl memory, same) = absurd cc
-          by (get_fault.BadFile mount line) (inr bad, same) = record { there = there; mount = bad.0; bad = bad.2; cause = bad.1 }
+          by (get_fault.BadFile mount line) (inr bad, same) =
+              record { there = there; mount = bad.0; bad = bad.2; cause = bad.1 }
           by (get_fault.TooLong mount bytes) (inl memory, same) = absurd cc
-          by (get_fault.TooLong mount bytes) (inr bad, same) = record { there = there; mount = bad.0; bad = bad.2; cause = bad.1 }
+          by (get_fault.TooLong mount bytes) (inr bad, same) =
+              record { there = there; mount = bad.0; bad = bad.2; cause = bad.1 }
           by (get_fault.TooHeavy mount weight) (inl memory, same) = absurd cc
-          by (get_fault.TooHeavy mount weight) (inr bad, same) = record { there = there; mount = bad.0; bad = bad.2; cause = bad.1 }
+          by (get_fault.TooHeavy mount weight) (inr bad, same) =
+              record { there = there; mount = bad.0; bad = bad.2; cause = bad.1 }
 
   -- ---- the set
 
   -- it may be committed
-  pub may_set : (set : Prepared) (parent : Name) (keys : KeyMap) → IsMade formats store (handle_of rec) (record_of rec) parent keys set → MayCommit formats g code refused files core entries log rec set
-  may_set set parent keys made = record { shared = may.shared; opening = may.opening; keeps = may.keeps; places = may.places; prepared = record { parent = parent; keys = keys; made = made } }
+  pub may_set : (set : Prepared) (parent : Name) (keys : KeyMap)
+      → IsMade formats store (handle_of rec) (record_of rec) parent keys set
+      → MayCommit formats g code refused files core entries log rec set
+  may_set set parent keys made =
+      record {
+        shared = may.shared;
+        opening = may.opening;
+        keeps = may.keeps;
+        places = may.places;
+        prepared = record { parent = parent; keys = keys; made = made };
+      }
 
   -- the record that got the parent is one of a handle in its turn
-  pub may_fetched : (fetching : Fetching) → IsFetched undo rec fetching → MayUndo formats g code refused files core entries log fetching.rec
+  pub may_fetched : (fetching : Fetching) → IsFetched undo rec fetching
+      → MayUndo formats g code refused files core entries log fetching.rec
   may_fetched fetching is = record {
     shared = may.shared;
     opening = may.opening;
@@ -212,7 +242,8 @@ module _ (formats : Formats) {D P : Type 0} (g : Ghosts D) (code : Coded D) (ref
   }
 
   -- nothing that was told before a set touches anything
-  pub barred : (why : UndoFault) → IsBarred undo why → (keys : KeyMap) → IsUndoneBy formats undo keys (record_of rec) keys (Err why)
+  pub barred : (why : UndoFault) → IsBarred undo why → (keys : KeyMap)
+      → IsUndoneBy formats undo keys (record_of rec) keys (Err why)
   barred (undo_fault.NoCommit told front) is keys = (is, refl, refl)
   barred (undo_fault.Overtaken name by front) is keys = (is, refl, refl)
   barred (undo_fault.Get why) is keys = (is, refl, refl)
@@ -228,16 +259,22 @@ module _ (formats : Formats) {D P : Type 0} (g : Ghosts D) (code : Coded D) (ref
 
   module _ (fetching : Fetching) (is : IsFetched undo rec fetching) where
     pub can : CanUndo formats store history (parent_of undo) (keys_got undo) number
-    can = can_undo formats store (λ r. proc_of rec) history (handle_of rec) number is.points may.procs legal is.got.there
+    can =
+        can_undo formats store (λ r. proc_of rec) history (handle_of rec) number is.points may.procs legal is.got.there
 
     -- the set that was prepared is that of the undoing
-    pub the_set : prepared (points_of store) (handle_of fetching.rec) (record_of fetching.rec) fetching.parent fetching.made ≡ set_made undo
+    pub the_set : prepared (points_of store) (handle_of fetching.rec) (record_of fetching.rec) fetching.parent fetching.made
+        ≡ set_made undo
     the_set = λ i. prepared (points_of store) (is.handle i) (is.rec_is i) (is.parent_is i) (is.made_is i)
 
-    pub can_prepare : (why : PrepareFault) → wants_memory (set_fault.Prepare why) ≡ false → IsRefusedSet formats store (set_made undo) why → CanRefuse (set_fault.Prepare why)
-    can_prepare = prepare_can formats store (set_made undo) (λ m. never-unfetched formats store history (handle_of rec) (parent_of undo) (record_of rec) (keys_got undo) number can m)
+    pub can_prepare : (why : PrepareFault) → wants_memory (set_fault.Prepare why) ≡ false
+        → IsRefusedSet formats store (set_made undo) why → CanRefuse (set_fault.Prepare why)
+    can_prepare =
+        prepare_can formats store (set_made undo) (λ m. never-unfetched formats store history (handle_of rec) (parent_of undo) (record_of rec) (keys_got undo) number can m)
 
-    pub can_commit : (why : CommitFault) → wants_memory (set_fault.Commit why) ≡ false → IsJudged formats store (tells_refusal (Err why)) history present (set_made undo) (Err why) → CanRefuse (set_fault.Commit why)
+    pub can_commit : (why : CommitFault) → wants_memory (set_fault.Commit why) ≡ false
+        → IsJudged formats store (tells_refusal (Err why)) history present (set_made undo) (Err why)
+        → CanRefuse (set_fault.Commit why)
     can_commit (commit_fault.Conflict mount by front) known judged =
         never-blocked formats store history (handle_of rec) (parent_of undo) (record_of rec) (keys_got undo) number can judged.0 by judged.3
     can_commit (commit_fault.FileTooLarge mount bytes front) known judged = tt

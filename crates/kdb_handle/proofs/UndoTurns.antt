@@ -74,7 +74,8 @@ module _ (formats : Formats) {D F P : Type 0} (g : Ghosts D) (code : Coded D) (r
       set_is = set.made.is ∙ the_set formats g code refused files old.core old.entries log rec number may fetching is
 
       given : MayCommit formats g code refused files old.core old.entries log fetching.rec set.set
-      given = may_set formats g code refused files old.core old.entries log fetching.rec number may_here set.set fetching.parent fetching.made set.made
+      given =
+          may_set formats g code refused files old.core old.entries log fetching.rec number may_here set.set fetching.parent fetching.made set.made
 
       early : IsEarly formats store (set_made undo) None
       early = subst (λ (s : sets.Prepared). IsEarly formats store s None) set_is set.made.early
@@ -96,19 +97,23 @@ module _ (formats : Formats) {D F P : Type 0} (g : Ghosts D) (code : Coded D) (r
 
     -- ---- what became of the set
 
-    sets_shared : (result : Result Done SetFault) → Sets result → IsShared formats g code refused new.core new.entries (log ++ told_now new.fresh)
+    sets_shared : (result : Result Done SetFault) → Sets result
+        → IsShared formats g code refused new.core new.entries (log ++ told_now new.fresh)
     sets_shared (Ok made) set = set.commits.shared log (given (Ok made) set)
     sets_shared (Err (set_fault.Commit why)) set = set.commits.shared log (given (Err why) set)
-    sets_shared (Err (set_fault.Prepare why)) set = shared_same formats g code refused old.core new.core old.entries new.entries log (told_now new.fresh) set.core set.entries set.told may.shared
+    sets_shared (Err (set_fault.Prepare why)) set =
+        shared_same formats g code refused old.core new.core old.entries new.entries log (told_now new.fresh) set.core set.entries set.told may.shared
 
-    sets_keeps : (result : Result Done SetFault) → Sets result → IsRecord store (commits_of (log ++ told_now new.fresh)) (handle_of left) (front_in (record_of left)) (record_of left)
+    sets_keeps : (result : Result Done SetFault) → Sets result
+        → IsRecord store (commits_of (log ++ told_now new.fresh)) (handle_of left) (front_in (record_of left)) (record_of left)
     sets_keeps (Ok made) set = set.commits.keeps log (given (Ok made) set)
     sets_keeps (Err (set_fault.Commit why)) set = set.commits.keeps log (given (Err why) set)
     sets_keeps (Err (set_fault.Prepare why)) set =
         subst (λ (r : Record). IsRecord store (commits_of (log ++ told_now new.fresh)) (handle_of r) (front_in (record_of r)) (record_of r)) (sym set.left_is)
         (subst (λ (l : List Told). IsRecord store (commits_of l) (handle_of fetching.rec) (front_in (record_of fetching.rec)) (record_of fetching.rec)) (untold log (told_now new.fresh) set.told) may_here.keeps)
 
-    committed : (keys : KeyMap) (made : Done) → Sets (Ok made) → IsUndoneBy formats undo keys (record_of left) fetching.made (Ok made)
+    committed : (keys : KeyMap) (made : Done) → Sets (Ok made)
+        → IsUndoneBy formats undo keys (record_of left) fetching.made (Ok made)
     committed keys (done.Committed commit aside) set = record {
       got = is.got;
       early = early (Ok (done.Committed commit aside)) set;
@@ -121,7 +126,8 @@ module _ (formats : Formats) {D F P : Type 0} (g : Ghosts D) (code : Coded D) (r
         never-same formats store history (handle_of rec) (parent_of undo) (record_of rec) (keys_got undo) number (can formats g code refused files old.core old.entries log rec number may fetching is) aside
         (judged (Ok (done.Same front aside)) set).1
 
-    unset : (keys : KeyMap) (why : SetFault) → Sets (Err why) → wants_memory why ≡ false → IsUndoneBy formats undo keys (record_of left) fetching.got (Err (undo_fault.Set why))
+    unset : (keys : KeyMap) (why : SetFault) → Sets (Err why) → wants_memory why ≡ false
+        → IsUndoneBy formats undo keys (record_of left) fetching.got (Err (undo_fault.Set why))
     unset keys (set_fault.Prepare why) set known =
         let refuses : IsRefusedSet formats store (set_made undo) why =
         subst (λ (s : sets.Prepared). IsRefusedSet formats store s why) (the_set formats g code refused files old.core old.entries log rec number may fetching is) (set.refused (is_known why known)) in
@@ -145,7 +151,8 @@ module _ (formats : Formats) {D F P : Type 0} (g : Ghosts D) (code : Coded D) (r
     told_ok : (made : Done) → Sets (Ok made) → told_now new.fresh ≡ told_by_undo (set_made undo) (Ok made)
     told_ok made set = told (Ok made) set
 
-    told_err : (why : SetFault) → Sets (Err why) → told_now new.fresh ≡ told_by_undo (set_made undo) (Err (undo_fault.Set why))
+    told_err : (why : SetFault) → Sets (Err why)
+        → told_now new.fresh ≡ told_by_undo (set_made undo) (Err (undo_fault.Set why))
     told_err (set_fault.Prepare why) set = set.told
     told_err (set_fault.Commit why) set = told (Err why) set
 
@@ -183,7 +190,8 @@ module _ (formats : Formats) {D F P : Type 0} (g : Ghosts D) (code : Coded D) (r
     here : IsFetched (undo_in files rec given.0 number) rec fetching
     here = fetched given.0 given.1
 
-    pub undoes_ok : (made : Done) → Sets (Ok made) → Undoes formats g code refused files old new rec left number keys fetching.made (Ok made)
+    pub undoes_ok : (made : Done) → Sets (Ok made)
+        → Undoes formats g code refused files old new rec left number keys fetching.made (Ok made)
     undoes_ok made set = record {
       shared = λ log may. sets_shared log may (fetched log may) (Ok made) set;
       keeps = λ log may. sets_keeps log may (fetched log may) (Ok made) set;
@@ -194,7 +202,8 @@ module _ (formats : Formats) {D F P : Type 0} (g : Ghosts D) (code : Coded D) (r
       proc = left_procs (Ok made) set ∙ here.procs;
     }
 
-    pub undoes_err : (why : SetFault) → Sets (Err why) → wants_memory why ≡ false → Undoes formats g code refused files old new rec left number keys fetching.got (Err (undo_fault.Set why))
+    pub undoes_err : (why : SetFault) → Sets (Err why) → wants_memory why ≡ false
+        → Undoes formats g code refused files old new rec left number keys fetching.got (Err (undo_fault.Set why))
     undoes_err why set known = record {
       shared = λ log may. sets_shared log may (fetched log may) (Err why) set;
       keeps = λ log may. sets_keeps log may (fetched log may) (Err why) set;
@@ -206,7 +215,8 @@ module _ (formats : Formats) {D F P : Type 0} (g : Ghosts D) (code : Coded D) (r
     }
 
     -- the record and the keys stay, where memory is wanting
-    pub undoes_none : (why : SetFault) → Sets (Err why) → wants_memory why ≡ true → Undoes formats g code refused files old new rec rec number keys keys (Err undo_fault.Memory)
+    pub undoes_none : (why : SetFault) → Sets (Err why) → wants_memory why ≡ true
+        → Undoes formats g code refused files old new rec rec number keys keys (Err undo_fault.Memory)
     undoes_none why set lacks = record {
       shared = λ log may. sets_shared log may (fetched log may) (Err why) set;
       keeps = λ log may.
@@ -219,7 +229,8 @@ module _ (formats : Formats) {D F P : Type 0} (g : Ghosts D) (code : Coded D) (r
     }
 
 -- a turn that is refused before its set
-pub undoes_barred : (formats : Formats) {D F P : Type 0} (g : Ghosts D) (code : Coded D) (refused : P → ℕ) (files : List MountedFile) (old new : Shared D F P) (rec : Record) (number : ℕ) (keys : KeyMap) (why : UndoFault)
+pub undoes_barred : (formats : Formats) {D F P : Type 0} (g : Ghosts D) (code : Coded D) (refused : P → ℕ)
+    (files : List MountedFile) (old new : Shared D F P) (rec : Record) (number : ℕ) (keys : KeyMap) (why : UndoFault)
     → new.core ≡ old.core → new.entries ≡ old.entries → told_now new.fresh ≡ []
     → ((log : List Told) → MayUndo formats g code refused files old.core old.entries log rec → IsBarred (undo_in files rec log number) why)
     → Undoes formats g code refused files old new rec rec number keys keys (Err why)
@@ -234,8 +245,11 @@ undoes_barred formats g code refused files old new rec number keys why core entr
 }
 
 -- what the core had told before doesn't matter
-pub undoes_again : (formats : Formats) {D F P : Type 0} (g : Ghosts D) (code : Coded D) (refused : P → ℕ) (files : List MountedFile) (old : Shared D F P) (told : Fresh) (new : Shared D F P) (rec left : Record) (number : ℕ) (keys after : KeyMap) (result : Result Done UndoFault)
-    → Undoes formats g code refused files (record old { fresh = told }) new rec left number keys after result → Undoes formats g code refused files old new rec left number keys after result
+pub undoes_again : (formats : Formats) {D F P : Type 0} (g : Ghosts D) (code : Coded D) (refused : P → ℕ)
+    (files : List MountedFile) (old : Shared D F P) (told : Fresh) (new : Shared D F P) (rec left : Record) (number : ℕ)
+    (keys after : KeyMap) (result : Result Done UndoFault)
+    → Undoes formats g code refused files (record old { fresh = told }) new rec left number keys after result
+    → Undoes formats g code refused files old new rec left number keys after result
 undoes_again formats g code refused files old told new rec left number keys after result turn = record {
   shared = turn.shared;
   keeps = turn.keeps;

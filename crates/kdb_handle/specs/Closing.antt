@@ -37,7 +37,8 @@ pub record IsHandedOn (formats : Formats) {D : Type 0} (g : Ghosts D) (files : L
   pub any_moment : LeavesOnly g start disk (IsReached last.files last.commits last.begun)
   pub now : EveryImage (g.may_leave disk) (HasOnly (IsEither (files_of last) last.doubt))
   pub shown : ¬ HasRisen (g.faults opened) (g.faults disk) → SameFiles (g.seen disk) (files_of last)
-  pub calm : ¬ HasRisen first.faults (g.faults disk) → IsCalm (g.seen disk) (g.may_leave disk) (files_of last) last.doubt
+  pub calm : ¬ HasRisen first.faults (g.faults disk)
+      → IsCalm (g.seen disk) (g.may_leave disk) (files_of last) last.doubt
 
 -- A closed store. There is one story, which begins with the opening and with all that each handle has seen. Its entries
 -- of a handle's number are those that the handle made, each once, in their order, and it has no others. Its history is
@@ -56,4 +57,5 @@ pub record IsClosed (formats : Formats) {D P : Type 0} (g : Ghosts D) (refused :
   pub faults : HasRisenBy (failures_in rest) (g.faults journal.disk) (g.faults closed.disk)
   pub refusals : HasRisenBy (refusals_in rest) opening.refusals (refused closed.patterns)
   pub left_alone : BeginsNone rest → opening.wrote ≡ false → IsFresh journal → closed.disk ≡ journal.disk
-  pub disk : (start : D) (first : Run) → first.names ≡ table_files (store_at files) → IsStore g start journal first → IsHandedOn formats g files start first journal.disk rest closed.disk
+  pub disk : (start : D) (first : Run) → first.names ≡ table_files (store_at files) → IsStore g start journal first
+      → IsHandedOn formats g files start first journal.disk rest closed.disk

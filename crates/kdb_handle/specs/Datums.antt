@@ -6,7 +6,8 @@ use Rattle.intent_journal.specs.Journal.{JournalValue}
 use Rattle.journal_codec.specs.declared.files.FileText.{FileText}
 
 abbrev pub coded_text : Coded FileText
-coded_text = code_by (List ℕ × List ℕ) (coded× (coded_list coded_ℕ) (coded_list coded_ℕ)) (λ t. (t.file, t.bytes)) (λ p. record { file = p.0; bytes = p.1 }) (λ _. refl)
+coded_text =
+    code_by (List ℕ × List ℕ) (coded× (coded_list coded_ℕ) (coded_list coded_ℕ)) (λ t. (t.file, t.bytes)) (λ p. record { file = p.0; bytes = p.1 }) (λ _. refl)
 
 -- a journal, by the datum of its disk
 abbrev pub coded_journal : {D : Type 0} → Coded D → Coded (JournalValue D)

@@ -20,11 +20,13 @@ pub record Gives (store : Store) (history : List Commit) (number : ℕ) (parent 
   pub good : first_bad store parent ≡ None
   pub front : got.front ≡ length history
   pub keys : got.keys ≡ event.got store (replay store.start history) number parent
-  pub kept : new ≡ keeping (involved_in (points_of store) parent) (length history) (wants (points_of store) (replay store.start history)) old
+  pub kept : new
+      ≡ keeping (involved_in (points_of store) parent) (length history) (wants (points_of store) (replay store.start history)) old
 
 -- the first involved mount that is bad is told with its cause; or there was no memory
 abbrev pub IsRefused : Store → List MountedFile → Name → GetFault → Type 0
-IsRefused store files parent why = (why ≡ fault.Memory) ⊎ ((m : ℕ) × (fault_at files m ≡ Some why) × (first_bad store parent ≡ Some m))
+IsRefused store files parent why =
+    (why ≡ fault.Memory) ⊎ ((m : ℕ) × (fault_at files m ≡ Some why) × (first_bad store parent ≡ Some m))
 
 -- the answer to a get of a handle of some number; a refused one leaves the record
 abbrev pub IsGotAt : Store → List MountedFile → List Commit → ℕ → Name → model.Record → model.Record → Result Got GetFault → Type 0

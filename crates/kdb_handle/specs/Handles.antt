@@ -25,13 +25,21 @@ coded_handle =
 
 -- a handle has a seat but for the time of its own turns
 abbrev pub no_seat : Known Told
-no_seat = knowledge (record { words = 0; slots = 0; views_name = 0; atom = 0; block = 0; offset = 0; slot_names = [] }) 0 [] []
+no_seat =
+    knowledge (record { words = 0; slots = 0; views_name = 0; atom = 0; block = 0; offset = 0; slot_names = [] }) 0 [] []
 
 abbrev pub seat_in : Option (Known Told) → Known Told
 seat_in seat = unwrap_or seat no_seat
 
 abbrev pub handle_with : Option (Known Told) → Record → HandleValue
-handle_with seat rec = record { place = (seat_in seat).place; number = (seat_in seat).number; seen = (seat_in seat).seen; own = (seat_in seat).own; rec = rec }
+handle_with seat rec =
+    record {
+      place = (seat_in seat).place;
+      number = (seat_in seat).number;
+      seen = (seat_in seat).seen;
+      own = (seat_in seat).own;
+      rec = rec;
+    }
 
 -- a flusher has one, too
 abbrev pub IsSat : Option (Known Told) → Type 0

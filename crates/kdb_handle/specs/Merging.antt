@@ -65,11 +65,13 @@ pub record IsRetry (formats : Formats) (files : List MountedFile) (parent : Name
   pub is_got : (procs : ℕ → KeyMap) → procs between.number ≡ proc_of between.rec
       → IsGotAt (store_of files procs) files (commits_of new.seen) between.number parent (record_of between.rec) (record_of new.rec) (Ok got)
   pub again : item.again ≡ got.front
-  pub theirs_is : theirs ≡ in_reach (points_of (store_at files)) parent (replay (store_at files).start (commits_of new.seen))
+  pub theirs_is : theirs
+      ≡ in_reach (points_of (store_at files)) parent (replay (store_at files).start (commits_of new.seen))
 
 -- one try of a handle
 abbrev pub IsTry : Formats → List MountedFile → Name → Strategy → HandleValue → KeyMap → Tried → HandleValue → KeyMap → Type 0
-IsTry formats files parent strategy = IsTryBy (IsRetry formats files parent) (points_of (store_at files)) parent strategy
+IsTry formats files parent strategy =
+    IsTryBy (IsRetry formats files parent) (points_of (store_at files)) parent strategy
 
 -- one that has no merge behind its get
 abbrev pub IsCut : Formats → List MountedFile → Name → HandleValue → KeyMap → List Tried → HandleValue → List Tried → (KeyMap → KeyMap → Type 0) → Type 0
@@ -87,7 +89,8 @@ IsSetAt formats files parent last new keys result = IsSet formats files last new
 
 -- how a call ends behind the tries that it made
 abbrev pub IsEnd : Formats → List MountedFile → Name → Strategy → ℕ → HandleValue → KeyMap → List Tried → HandleValue → List Tried → Result Done MergeEnd → Type 0
-IsEnd formats files parent strategy = IsEndBy (IsRetry formats files parent) (IsSetAt formats files parent) IsIdle (points_of (store_at files)) parent strategy
+IsEnd formats files parent strategy =
+    IsEndBy (IsRetry formats files parent) (IsSetAt formats files parent) IsIdle (points_of (store_at files)) parent strategy
 
 -- one try more was made
 pub record IsAgain (formats : Formats) (files : List MountedFile) (parent : Name) (strategy : Strategy) (last : HandleValue) (keys : KeyMap) (made : List Tried) (new : HandleValue) (tried : List Tried) (next : KeyMap) : Type 0 where
@@ -97,14 +100,19 @@ pub record IsAgain (formats : Formats) (files : List MountedFile) (parent : Name
 
 -- what one attempt comes to that isn't the last one
 abbrev pub IsAttempt : Formats → List MountedFile → Name → Strategy → ℕ → HandleValue → KeyMap → List Tried → HandleValue → List Tried → Result Attempt MergeEnd → Type 0
-IsAttempt formats files parent strategy tries last keys made new tried (Ok (attempt.Stored done)) = IsEnd formats files parent strategy tries last keys made new tried (Ok done)
-IsAttempt formats files parent strategy tries last keys made new tried (Ok (attempt.Again next)) = IsAgain formats files parent strategy last keys made new tried next
+IsAttempt formats files parent strategy tries last keys made new tried (Ok (attempt.Stored done)) =
+    IsEnd formats files parent strategy tries last keys made new tried (Ok done)
+IsAttempt formats files parent strategy tries last keys made new tried (Ok (attempt.Again next)) =
+    IsAgain formats files parent strategy last keys made new tried next
 IsAttempt formats files parent strategy tries last keys made new tried (Err (merge_end.TriesSpent mount by front)) = ⊥
-IsAttempt formats files parent strategy tries last keys made new tried (Err (merge_end.Set why)) = IsEnd formats files parent strategy tries last keys made new tried (Err (merge_end.Set why))
+IsAttempt formats files parent strategy tries last keys made new tried (Err (merge_end.Set why)) =
+    IsEnd formats files parent strategy tries last keys made new tried (Err (merge_end.Set why))
 IsAttempt formats files parent strategy tries last keys made new tried (Err (merge_end.MergeConflicts names)) =
     IsEnd formats files parent strategy tries last keys made new tried (Err (merge_end.MergeConflicts names))
-IsAttempt formats files parent strategy tries last keys made new tried (Err merge_end.Memory) = IsEnd formats files parent strategy tries last keys made new tried (Err merge_end.Memory)
+IsAttempt formats files parent strategy tries last keys made new tried (Err merge_end.Memory) =
+    IsEnd formats files parent strategy tries last keys made new tried (Err merge_end.Memory)
 
 -- a merged set of a handle
 abbrev pub IsMergedSet : Formats → List MountedFile → Name → Strategy → ℕ → HandleValue → KeyMap → HandleValue → KeyMap → List Tried → Result Done MergeEnd → Type 0
-IsMergedSet formats files parent strategy = IsMergedBy (IsRetry formats files parent) (IsSetAt formats files parent) IsIdle (points_of (store_at files)) parent strategy
+IsMergedSet formats files parent strategy =
+    IsMergedBy (IsRetry formats files parent) (IsSetAt formats files parent) IsIdle (points_of (store_at files)) parent strategy

@@ -12,7 +12,8 @@ use Rattle.mounted_files.specs.declared.files.MountedFile.{MountedFile}
 -- the opening of some mounted files over a journal, with the matcher's count of refusals and whether it wrote to the
 -- disk
 abbrev pub opening_of : {D : Type 0} → Coded D → List MountedFile → JournalValue D → ℕ → Bool → Opening
-opening_of code files journal refusals wrote = record { files = files; journal = (coded_journal code).code journal; refusals = refusals; wrote = wrote }
+opening_of code files journal refusals wrote =
+    record { files = files; journal = (coded_journal code).code journal; refusals = refusals; wrote = wrote }
 
 -- the store of some mounted files; whose keys are in `proc` matters to a get alone
 abbrev pub store_at : List MountedFile → Store

@@ -46,7 +46,8 @@ pub record LeadsOn {S : Type 0} (IsTry : S → KeyMap → Tried → S → KeyMap
 -- tries one after another, by what one try is
 abbrev pub AreTries : {S : Type 0} → (S → KeyMap → Tried → S → KeyMap → Type 0) → S → KeyMap → List Tried → S → KeyMap → Type 0
 AreTries IsTry old ours [] new last = (new ≡ old) × (last ≡ ours)
-AreTries IsTry old ours (item ∷ items) new last = LeadsOn IsTry old ours item (λ mid next. AreTries IsTry mid next items new last)
+AreTries IsTry old ours (item ∷ items) new last =
+    LeadsOn IsTry old ours item (λ mid next. AreTries IsTry mid next items new last)
 
 -- ---- one try, and the end of them all
 
@@ -81,13 +82,16 @@ pub record IsCutBy {S : Type 0} (IsRetry : S → KeyMap → Tried → S → KeyM
 -- is made of them behind the get of one more item; or there was no memory, behind such a get or before it
 abbrev pub IsEndBy : {S : Type 0} → (S → KeyMap → Tried → S → KeyMap → KeyMap → Type 0) → (S → S → KeyMap → Result Done SetFault → Type 0) → (S → S → Type 0)
     → List Name → Name → Strategy → ℕ → S → KeyMap → List Tried → S → List Tried → Result Done MergeEnd → Type 0
-IsEndBy IsRetry IsSet IsIdle points parent strategy tries last keys made new tried (Ok done) = (tried ≡ made) × IsSet last new keys (Ok done)
+IsEndBy IsRetry IsSet IsIdle points parent strategy tries last keys made new tried (Ok done) =
+    (tried ≡ made) × IsSet last new keys (Ok done)
 IsEndBy IsRetry IsSet IsIdle points parent strategy tries last keys made new tried (Err (merge_end.TriesSpent mount by front)) =
     (tried ≡ made) × IsSet last new keys (Err (set_fault.Commit (commit_fault.Conflict mount by front))) × (length tried + 1 ≡ tries)
-IsEndBy IsRetry IsSet IsIdle points parent strategy tries last keys made new tried (Err (merge_end.Set why)) = (tried ≡ made) × IsSet last new keys (Err why) × IsOther why
+IsEndBy IsRetry IsSet IsIdle points parent strategy tries last keys made new tried (Err (merge_end.Set why)) =
+    (tried ≡ made) × IsSet last new keys (Err why) × IsOther why
 IsEndBy IsRetry IsSet IsIdle points parent strategy tries last keys made new tried (Err (merge_end.MergeConflicts names)) =
     IsCutBy IsRetry last keys made new tried (λ base theirs. AreInTheWay points parent strategy base keys theirs names)
-IsEndBy IsRetry IsSet IsIdle points parent strategy tries last keys made new tried (Err merge_end.Memory) = ((tried ≡ made) × IsIdle last new) ⊎ IsCutBy IsRetry last keys made new tried (λ base theirs. Unit {0})
+IsEndBy IsRetry IsSet IsIdle points parent strategy tries last keys made new tried (Err merge_end.Memory) =
+    ((tried ≡ made) × IsIdle last new) ⊎ IsCutBy IsRetry last keys made new tried (λ base theirs. Unit {0})
 
 -- A merged set: the tries that were made lead to the state and the keys that its end speaks of. There are fewer items
 -- than tries

@@ -14,7 +14,8 @@ use Rattle.kdb_handle.specs.Story.{Told, Opened, Committed, Failed, Refused, com
 -- doubt, or what was, or these; a refused pattern begins nothing
 abbrev pub RunsBy : Formats → Store → KeyMap → Run → List Told → Run → Type 0
 RunsBy formats store keys run [] last = last ≡ run
-RunsBy formats store keys run (Committed commit ∷ log) last = RunsBy formats store (changed_by commit.changes keys) (after_commit run (entry_of formats store keys commit)) log last
+RunsBy formats store keys run (Committed commit ∷ log) last =
+    RunsBy formats store (changed_by commit.changes keys) (after_commit run (entry_of formats store keys commit)) log last
 RunsBy formats store keys run (Failed commit ∷ log) last =
     (doubt : Option (List FileText)) × IsOneOf doubt run.doubt (entry_of formats store keys commit)
     × RunsBy formats store keys (after_begun run (entry_of formats store keys commit) doubt) log last
@@ -47,5 +48,7 @@ pub record ComesTo (formats : Formats) (store : Store) (keys : KeyMap) (first : 
   pub files : last.files ≡ first.files
   pub faults : last.faults ≡ first.faults
   pub commits : last.commits ≡ first.commits ++ entries_from formats store keys (commits_of log)
-  pub begun : (number : ℕ) (entry : List FileText) → Contains last.begun (number, entry) → Contains first.begun (number, entry) ⊎ IsBegunBy formats store keys (length first.commits) log number entry
-  pub doubt : (entry : List FileText) → last.doubt ≡ Some entry → ((first.doubt ≡ Some entry) × (commits_of log ≡ [])) ⊎ IsLeftBy formats store keys log entry
+  pub begun : (number : ℕ) (entry : List FileText) → Contains last.begun (number, entry)
+      → Contains first.begun (number, entry) ⊎ IsBegunBy formats store keys (length first.commits) log number entry
+  pub doubt : (entry : List FileText) → last.doubt ≡ Some entry
+      → ((first.doubt ≡ Some entry) × (commits_of log ≡ [])) ⊎ IsLeftBy formats store keys log entry

@@ -48,7 +48,8 @@ pub record IsDone (formats : Formats) (files : List MountedFile) (old new : Hand
   pub judged : IsJudged formats (store_at files) (tells_refusal result) (commits_of found) (replay (store_at files).start (commits_of found)) (prepared_of set) result
   pub sees : new.seen ≡ found ++ told_by (prepared_of set) result
   pub gains : new.own ≡ old.own ++ told_by (prepared_of set) result
-  pub kept : record_of new.rec ≡ record_by (store_at files) (commits_of found) (prepared_of set) result (record_of old.rec)
+  pub kept : record_of new.rec
+      ≡ record_by (store_at files) (commits_of found) (prepared_of set) result (record_of old.rec)
 
 -- some keys at a parent make a set, which was committed with an answer
 pub record IsStored (formats : Formats) (files : List MountedFile) (old new : HandleValue) (parent : Name) (keys : KeyMap) (result : Result Done CommitFault) : Type 0 where
@@ -59,6 +60,7 @@ pub record IsStored (formats : Formats) (files : List MountedFile) (old new : Ha
 -- the answer to a set of some keys at a parent; one that isn't prepared takes no turn
 abbrev pub IsSet : Formats → List MountedFile → HandleValue → HandleValue → Name → KeyMap → Result Done SetFault → Type 0
 IsSet formats files old new parent keys (Ok done) = IsStored formats files old new parent keys (Ok done)
-IsSet formats files old new parent keys (Err (set_fault.Commit why)) = IsStored formats files old new parent keys (Err why)
+IsSet formats files old new parent keys (Err (set_fault.Commit why)) =
+    IsStored formats files old new parent keys (Err why)
 IsSet formats files old new parent keys (Err (set_fault.Prepare why)) =
     (new ≡ old) × UnlessMemory fault.Memory (IsRefused formats (store_at files) old.number (record_of old.rec) parent keys why) why

@@ -53,5 +53,7 @@ pub record IsShared (formats : Formats) {D P : Type 0} (g : Ghosts D) (code : Co
   pub faults : HasRisenBy (failures_in rest) (g.faults journal.disk) (g.faults core.journal.disk)
   pub refusals : HasRisenBy (refusals_in rest) opening.refusals (refused core.patterns)
   pub idle : BeginsNone rest → journal.list ≡ [] → (core.journal ≡ journal) × (core.wrote ≡ opening.wrote)
-  pub run : (start : D) (first : Run) → first.names ≡ table_files (store_at opening.files) → IsStore g start journal first
-      → (last : Run) × RunsBy formats (store_at opening.files) (visible_keys opening.files) first rest last × IsStore g start core.journal last
+  pub run : (start : D) (first : Run) → first.names ≡ table_files (store_at opening.files)
+      → IsStore g start journal first
+      → (last : Run) × RunsBy formats (store_at opening.files) (visible_keys opening.files) first rest last
+      × IsStore g start core.journal last

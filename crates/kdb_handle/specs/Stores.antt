@@ -37,7 +37,8 @@ pub record IsHandle {F : Type 0} (lock : Place Told) (plan : Plan F) (handle : H
 pub record AreFree (lock : Place Told) (seats : List (Known Told)) (room : ℕ) : Type 0 where
   pub room_is : lock.seats ≤ room
   pub some : length seats < lock.seats
-  pub each : (k : ℕ) → k < length seats → slice_get seats k ≡ Some (knowledge lock.place (lock.seats - length seats + k) lock.start [])
+  pub each : (k : ℕ) → k < length seats
+      → slice_get seats k ≡ Some (knowledge lock.place (lock.seats - length seats + k) lock.start [])
 
 -- the flusher of a store has the last seat: it has seen the opening at least, and makes nothing
 pub record IsFlusher (lock : Place Told) (flusher : Known Told) : Type 0 where

@@ -87,4 +87,5 @@ told_of-parts (Failed commit) = refl
 told_of-parts (Refused handle) = refl
 
 abbrev pub coded_told : Coded Told
-coded_told = code_by Parts (coded⊎ (coded× (coded_list the_row.coded) (coded× itself (coded× coded_ℕ coded_bool))) (coded⊎ coded_commit (coded⊎ coded_commit coded_ℕ))) parts_of told_of told_of-parts
+coded_told =
+    code_by Parts (coded⊎ (coded× (coded_list the_row.coded) (coded× itself (coded× coded_ℕ coded_bool))) (coded⊎ coded_commit (coded⊎ coded_commit coded_ℕ))) parts_of told_of told_of-parts

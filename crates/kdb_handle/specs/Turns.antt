@@ -70,7 +70,8 @@ told_by set (Err fault.Memory) = []
 -- what the record keeps then: on a commit what was wanted for each touched mount, with the commit's number where the
 -- mount counts by its backend
 abbrev pub record_by : Store → List past.Commit → sets.Prepared → Result Done CommitFault → model.Record → model.Record
-record_by store history set (Ok (done.Committed number aside)) rec = storing store set.touched (length history + 1) (wants (points_of store) set.keys) rec
+record_by store history set (Ok (done.Committed number aside)) rec =
+    storing store set.touched (length history + 1) (wants (points_of store) set.keys) rec
 record_by store history set (Ok (done.Same front aside)) rec = rec
 record_by store history set (Err why) rec = rec
 
@@ -78,11 +79,13 @@ record_by store history set (Err why) rec = rec
 -- told, and the record is that of its fronts there. The history that the turn found decides the answer, which says what
 -- is told and what the record keeps; the number, the places and the keys in `proc` stay
 pub record Commits (formats : Formats) {D F P : Type 0} (g : Ghosts D) (code : Coded D) (refused : P → ℕ) (files : List MountedFile) (old new : Shared D F P) (rec left : Record) (set : Prepared) (result : Result Done CommitFault) : Type 0 where
-  pub shared : (log : List Told) → MayCommit formats g code refused files old.core old.entries log rec set → IsShared formats g code refused new.core new.entries (log ++ told_now new.fresh)
+  pub shared : (log : List Told) → MayCommit formats g code refused files old.core old.entries log rec set
+      → IsShared formats g code refused new.core new.entries (log ++ told_now new.fresh)
   pub keeps : (log : List Told) → MayCommit formats g code refused files old.core old.entries log rec set
       → IsRecord (store_at files) (commits_of (log ++ told_now new.fresh)) (handle_of left) (front_in (record_of left)) (record_of left)
   pub told : told_now new.fresh ≡ told_by (prepared_of set) result
-  pub judged : (risen : Bool) × IsJudged formats (store_at files) risen old.core.history.commits old.core.keys (prepared_of set) result
+  pub judged : (risen : Bool)
+      × IsJudged formats (store_at files) risen old.core.history.commits old.core.keys (prepared_of set) result
   pub kept : (log : List Told) → MayCommit formats g code refused files old.core old.entries log rec set
       → record_of left ≡ record_by (store_at files) old.core.history.commits (prepared_of set) result (record_of rec)
   pub handle : handle_of left ≡ handle_of rec

@@ -47,7 +47,15 @@ pub record MayUndo (formats : Formats) {D P : Type 0} (g : Ghosts D) (code : Cod
 
 -- the undoing of a commit by the record of a handle, at a story
 abbrev pub undo_in : List MountedFile → Record → List Told → ℕ → Undo
-undo_in files rec log number = record { files = files; handle = handle_of rec; procs = proc_of rec; rec = record_of rec; history = commits_of log; number = number }
+undo_in files rec log number =
+    record {
+      files = files;
+      handle = handle_of rec;
+      procs = proc_of rec;
+      rec = record_of rec;
+      history = commits_of log;
+      number = number;
+    }
 
 -- ---- what is got and made
 
@@ -89,9 +97,12 @@ pub record IsCommitted (formats : Formats) {D F P : Type 0} (g : Ghosts D) (code
   pub commits : Commits formats g code refused files old new rec left set result
 
 abbrev pub SetsIn : Formats → {D F P : Type 0} → Ghosts D → Coded D → (P → ℕ) → List MountedFile → Shared D F P → Shared D F P → Record → Record → Name → KeyMap → Result Done SetFault → Type 0
-SetsIn formats g code refused files old new rec left parent keys (Ok made) = IsCommitted formats g code refused files old new rec left parent keys (Ok made)
-SetsIn formats g code refused files old new rec left parent keys (Err (set_fault.Commit why)) = IsCommitted formats g code refused files old new rec left parent keys (Err why)
-SetsIn formats g code refused files old new rec left parent keys (Err (set_fault.Prepare why)) = IsUnprepared formats files old new rec left parent keys why
+SetsIn formats g code refused files old new rec left parent keys (Ok made) =
+    IsCommitted formats g code refused files old new rec left parent keys (Ok made)
+SetsIn formats g code refused files old new rec left parent keys (Err (set_fault.Commit why)) =
+    IsCommitted formats g code refused files old new rec left parent keys (Err why)
+SetsIn formats g code refused files old new rec left parent keys (Err (set_fault.Prepare why)) =
+    IsUnprepared formats files old new rec left parent keys why
 
 -- a refusal is want of memory
 abbrev pub wants_memory : SetFault → Bool
@@ -105,11 +116,14 @@ wants_memory why = false
 -- the record is that of its fronts there, and the history that the turn found decides all; the number, the places and
 -- the keys in `proc` stay
 pub record Undoes (formats : Formats) {D F P : Type 0} (g : Ghosts D) (code : Coded D) (refused : P → ℕ) (files : List MountedFile) (old new : Shared D F P) (rec left : Record) (number : ℕ) (keys after : KeyMap) (result : Result Done UndoFault) : Type 0 where
-  pub shared : (log : List Told) → MayUndo formats g code refused files old.core old.entries log rec → IsShared formats g code refused new.core new.entries (log ++ told_now new.fresh)
+  pub shared : (log : List Told) → MayUndo formats g code refused files old.core old.entries log rec
+      → IsShared formats g code refused new.core new.entries (log ++ told_now new.fresh)
   pub keeps : (log : List Told) → MayUndo formats g code refused files old.core old.entries log rec
       → IsRecord (store_at files) (commits_of (log ++ told_now new.fresh)) (handle_of left) (front_in (record_of left)) (record_of left)
-  pub told : (log : List Told) → MayUndo formats g code refused files old.core old.entries log rec → told_now new.fresh ≡ told_by_undo (set_made (undo_in files rec log number)) result
-  pub undone : (log : List Told) → MayUndo formats g code refused files old.core old.entries log rec → IsUndoneBy formats (undo_in files rec log number) keys (record_of left) after result
+  pub told : (log : List Told) → MayUndo formats g code refused files old.core old.entries log rec
+      → told_now new.fresh ≡ told_by_undo (set_made (undo_in files rec log number)) result
+  pub undone : (log : List Told) → MayUndo formats g code refused files old.core old.entries log rec
+      → IsUndoneBy formats (undo_in files rec log number) keys (record_of left) after result
   pub handle : handle_of left ≡ handle_of rec
   pub places : places_of left ≡ places_of rec
   pub proc : proc_of left ≡ proc_of rec

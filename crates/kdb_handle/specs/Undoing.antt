@@ -64,7 +64,8 @@ parent_of undo = undo_parent (store_at undo.files) undo.history undo.number
 
 -- what a get of this parent gives, and what the record keeps then
 abbrev pub keys_got : Undo → KeyMap
-keys_got undo = got (store_of undo.files (λ r. undo.procs)) (replay (store_at undo.files).start undo.history) undo.handle (parent_of undo)
+keys_got undo =
+    got (store_of undo.files (λ r. undo.procs)) (replay (store_at undo.files).start undo.history) undo.handle (parent_of undo)
 
 abbrev pub rec_got : Undo → Record
 rec_got undo = record_got (store_at undo.files) undo.history (parent_of undo) undo.rec
@@ -74,7 +75,8 @@ abbrev pub keys_made : Undo → KeyMap
 keys_made undo = taken_back (store_at undo.files) undo.history undo.number (keys_got undo)
 
 abbrev pub set_made : Undo → Prepared
-set_made undo = undo_set (store_at undo.files) undo.history undo.handle (parent_of undo) undo.rec (keys_got undo) undo.number
+set_made undo =
+    undo_set (store_at undo.files) undo.history undo.handle (parent_of undo) undo.rec (keys_got undo) undo.number
 
 -- ---- what it answers
 
@@ -88,8 +90,10 @@ pub record IsUngot (undo : Undo) (why : GetFault) : Type 0 where
 -- what refuses it before its set: no commit has the number; a later commit overtakes it, the first such one, at the
 -- first such name in it; a mount that the parent involves is bad. Of want of memory nothing is said
 abbrev pub IsBarred : Undo → UndoFault → Type 0
-IsBarred undo (undo_fault.NoCommit number front) = IsNumberOfNone undo.history undo.number × (number ≡ undo.number) × (front ≡ length undo.history)
-IsBarred undo (undo_fault.Overtaken name by front) = (overtaken undo.history undo.number ≡ Some (by, name)) × (front ≡ length undo.history)
+IsBarred undo (undo_fault.NoCommit number front) =
+    IsNumberOfNone undo.history undo.number × (number ≡ undo.number) × (front ≡ length undo.history)
+IsBarred undo (undo_fault.Overtaken name by front) =
+    (overtaken undo.history undo.number ≡ Some (by, name)) × (front ≡ length undo.history)
 IsBarred undo (undo_fault.Get why) = IsUngot undo why
 IsBarred undo (undo_fault.Set why) = ⊥
 IsBarred undo undo_fault.Memory = ⊤
@@ -130,7 +134,8 @@ pub record IsTakenBack (formats : Formats) (undo : Undo) (left : Record) (after 
   pub early : IsEarly formats (store_at undo.files) (set_made undo) None
   pub judged : IsJudged formats (store_at undo.files) false undo.history (replay (store_at undo.files).start undo.history) (set_made undo) (Ok (done.Committed number aside))
   pub changes : map.entries (set_made undo).changes ≡ inverse (store_at undo.files).start undo.history undo.number
-  pub left_is : left ≡ record_by (store_at undo.files) undo.history (set_made undo) (Ok (done.Committed number aside)) (rec_got undo)
+  pub left_is : left
+      ≡ record_by (store_at undo.files) undo.history (set_made undo) (Ok (done.Committed number aside)) (rec_got undo)
   pub after_is : after ≡ keys_made undo
 
 -- An undoing by some record and some keys leaves these and answers this. It is refused where no commit has the number;
@@ -138,7 +143,8 @@ pub record IsTakenBack (formats : Formats) (undo : Undo) (left : Record) (after 
 -- order. Behind the first three and after want of memory the record and the keys are as before. What isn't refused is a
 -- commit, and never nothing to do
 abbrev pub IsUndoneBy : Formats → Undo → KeyMap → Record → KeyMap → Result Done UndoFault → Type 0
-IsUndoneBy formats undo keys left after (Ok (done.Committed number aside)) = IsTakenBack formats undo left after number aside
+IsUndoneBy formats undo keys left after (Ok (done.Committed number aside)) =
+    IsTakenBack formats undo left after number aside
 IsUndoneBy formats undo keys left after (Ok (done.Same front aside)) = ⊥
 IsUndoneBy formats undo keys left after (Err (undo_fault.Set why)) = IsUnset formats undo left after why
 IsUndoneBy formats undo keys left after (Err why) = IsBarred undo why × (left ≡ undo.rec) × (after ≡ keys)
@@ -153,7 +159,15 @@ told_by_undo set (Err why) = []
 
 -- the undoing of a commit by a handle, at a story
 abbrev pub undo_by : List MountedFile → HandleValue → List Told → ℕ → Undo
-undo_by files old found number = record { files = files; handle = old.number; procs = proc_of old.rec; rec = record_of old.rec; history = commits_of found; number = number }
+undo_by files old found number =
+    record {
+      files = files;
+      handle = old.number;
+      procs = proc_of old.rec;
+      rec = record_of old.rec;
+      history = commits_of found;
+      number = number;
+    }
 
 -- A handle's turn with an undoing. It found a story that begins with all that the handle had seen, and that has of its
 -- number just what it made. Its history is legal, and decides the answer, the record and the keys. The story gains what

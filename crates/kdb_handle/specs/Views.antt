@@ -41,4 +41,5 @@ spare_of free = free.flusher
 
 -- how the story of a store begins that was just opened
 abbrev pub first_story : {D P F : Type 0} → Coded D → (P → ℕ) → Plan F → Core D P → List Told
-first_story code refused plan core = Opened (opening_of code plan.mounted core.journal (refused core.patterns) core.wrote) ∷ []
+first_story code refused plan core =
+    Opened (opening_of code plan.mounted core.journal (refused core.patterns) core.wrote) ∷ []

@@ -35,7 +35,8 @@ impl<D: Disk, F: Formats + Drop, P: Patterns + Drop> Locked<Shared<D, F, P>, F> 
         requires handles { All (IsHandle (lock_of self) (plan_of self)) handles.items }
         requires flusher { HasFlusher (lock_of self) (spare_of seats) flusher }
         requires all { length handles.items + length (seats_of seats) + 1 ≡ (lock_of self).seats }
-        ensures { (journal : JournalValue D) → (opening_in (lock_of self).start).journal ≡ (coded_journal D.row.coded).code journal
+        ensures { (journal : JournalValue D)
+            → (opening_in (lock_of self).start).journal ≡ (coded_journal D.row.coded).code journal
             → IsClosed (formats_of F.Formats) D.Disk P.refusals (files_in self) journal (opening_in (lock_of self).start) (length handles.items) handles.items result }
     {
         let seats = gather(left_over(seats, flusher), handles);

@@ -41,8 +41,10 @@ use storage_api::Formats;
 /// A set that a handle prepared earlier is one that its record makes now, where the record accepts it: what is kept of
 /// a mount goes by its front and the handle's own commits. The history may have grown since.
 pub fn an_accepted_set_is_still_prepared<F: Formats>(_formats: &F)
-    ensures { (files : List MountedFile) (earlier later : List Commit) (number handle : ℕ) (before rec : Record) (parent : Name) (keys : KeyMap) (set : Prepared)
-        → IsPrefix earlier later → IsRecord (store_at files) earlier handle (front_in before) before → IsRecord (store_at files) later number (front_in rec) rec
+    ensures { (files : List MountedFile) (earlier later : List Commit) (number handle : ℕ) (before rec : Record)
+        (parent : Name) (keys : KeyMap) (set : Prepared)
+        → IsPrefix earlier later → IsRecord (store_at files) earlier handle (front_in before) before
+        → IsRecord (store_at files) later number (front_in rec) rec
         → IsMade (formats_of F.Formats) (store_at files) handle before parent keys set
         → accepts rec number (prepared_of set) ≡ true
         → IsPrepared (formats_of F.Formats) files number rec set }
@@ -60,7 +62,8 @@ pub fn the_blocking_commit_is_anothers<F: Formats + Drop>(_formats: &F)
 /// The commits in the way of a merged set have rising numbers, from 1 on: each lies behind all that the get before it
 /// found.
 pub fn the_commits_in_the_way_rise<F: Formats>(_formats: &F)
-    ensures { (files : List MountedFile) (parent : Name) (strategy : Strategy) (tries : ℕ) (old new : HandleValue) (ours after : KeyMap) (tried : List Tried) (end : Result Done MergeEnd)
+    ensures { (files : List MountedFile) (parent : Name) (strategy : Strategy) (tries : ℕ) (old new : HandleValue)
+        (ours after : KeyMap) (tried : List Tried) (end : Result Done MergeEnd)
         → IsMergedSet (formats_of F.Formats) files parent strategy tries old ours new after tried end
         → Rise 0 (in_the_way tried end) }
 {}
@@ -82,12 +85,14 @@ pub fn an_undo_of_the_last_commit_gives_the_map_before_it<F: Formats>(_formats: 
     ensures { (files : List MountedFile) (old new : HandleValue) (number commit aside : ℕ) (keys after : KeyMap)
         → (undone : IsUndone (formats_of F.Formats) files old new number keys after (Ok (Committed commit aside)))
         → number ≡ length (commits_of undone.found)
-        → replay (store_at files).start (commits_of new.seen) ≡ replay (store_at files).start (take (number - 1) (commits_of undone.found)) }
+        → replay (store_at files).start (commits_of new.seen)
+        ≡ replay (store_at files).start (take (number - 1) (commits_of undone.found)) }
 {}
 
 /// What a run comes to by a story: its files stay, its commits gain those of the story, and what was begun or is in
 /// doubt had been, or is a set of the story.
 pub fn a_run_comes_to_its_story<F: Formats>(_formats: &F)
-    ensures { (store : Store) (keys : KeyMap) (first last : Run) (story : List Told) → RunsBy (formats_of F.Formats) store keys first story last
+    ensures { (store : Store) (keys : KeyMap) (first last : Run) (story : List Told)
+        → RunsBy (formats_of F.Formats) store keys first story last
         → ComesTo (formats_of F.Formats) store keys first story last }
 {}

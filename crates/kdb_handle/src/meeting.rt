@@ -17,7 +17,8 @@ impl Handle {
         store: &SharedStore<D, F, P>,
         other: &mut Handle,
     )
-        requires { IsHandle (lock_of store.now) (plan_of store.now) self.old × IsHandle (lock_of store.now) (plan_of store.now) other.old }
+        requires { IsHandle (lock_of store.now) (plan_of store.now) self.old
+            × IsHandle (lock_of store.now) (plan_of store.now) other.old }
         ensures handle { IsHandle (lock_of store.now) (plan_of store.now) self.new }
         ensures number { self.new.number ≡ self.old.number }
         ensures met { self.new.seen ≡ longer self.old.seen other.old.seen }

@@ -227,7 +227,8 @@ impl Handle {
         ensures handle { IsHandle (lock_of store.now) (plan_of store.now) self.new }
         ensures number { self.new.number ≡ self.old.number }
         ensures proc { proc_of self.new.rec ≡ proc_of self.old.rec }
-        ensures attempt { (first : HandleValue) → self.old.number ≡ first.number → IsStored (formats_of F.Formats) (files_in store.now) first self.old parent.now ours.now (Err (fault.Conflict met.mount met.by met.front))
+        ensures attempt { (first : HandleValue) → self.old.number ≡ first.number
+            → IsStored (formats_of F.Formats) (files_in store.now) first self.old parent.now ours.now (Err (fault.Conflict met.mount met.by met.front))
             → IsAttempt (formats_of F.Formats) (files_in store.now) parent.now strategy 0 first ours.now tried.old.items self.new tried.new.items result }
     {
         let Met { mount, by, front } = met;

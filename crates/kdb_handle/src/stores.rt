@@ -49,7 +49,8 @@ impl<D: Disk, F: Formats + Drop, P: Patterns + Drop> NewStore<D, F, P> {
         handles: u32,
     ) -> Result<NewStore<D, F, P>, NotShared<D, F, P>>
         requires handles { (0 < handles) × (handles ≤ 32) }
-        requires world { (procs : ℕ → KeyMap) → StandsIn (formats_of F.Formats) (store_of (files_of plan) procs) core (λ r. no_record) (λ p. None) first_world }
+        requires world { (procs : ℕ → KeyMap)
+            → StandsIn (formats_of F.Formats) (store_of (files_of plan) procs) core (λ r. no_record) (λ p. None) first_world }
         ensures { SharesStore D.row.coded P.refusals plan core handles result }
     {
         let shared = Shared {

@@ -45,7 +45,8 @@ impl<D: Disk, F: Formats + Drop, P: Patterns + Drop> Shared<D, F, P> {
         number: u64,
         keys: &mut KeySet,
     ) -> Result<Done, UndoFault>
-        requires may { (log : List Told) × MayUndo (formats_of F.Formats) D.Disk D.row.coded P.refusals plan.now.mounted self.old.core self.old.entries log rec.old }
+        requires may { (log : List Told)
+            × MayUndo (formats_of F.Formats) D.Disk D.row.coded P.refusals plan.now.mounted self.old.core self.old.entries log rec.old }
         ensures { Undoes (formats_of F.Formats) D.Disk D.row.coded P.refusals plan.now.mounted self.old self.new rec.old rec.new number keys.old keys.new result }
     {
         self.fresh = Fresh::Nothing;
@@ -82,7 +83,8 @@ impl<D: Disk, F: Formats + Drop, P: Patterns + Drop> Shared<D, F, P> {
         number: u64,
     ) -> Result<Fetching, UndoFault>
         requires { length plan.now.mounted ≤ places_of rec.now }
-        ensures { (log : List Told) → MayUndo (formats_of F.Formats) D.Disk D.row.coded P.refusals plan.now.mounted self.now.core self.now.entries log rec.now
+        ensures { (log : List Told)
+            → MayUndo (formats_of F.Formats) D.Disk D.row.coded P.refusals plan.now.mounted self.now.core self.now.entries log rec.now
             → Fetches (undo_in plan.now.mounted rec.now log number) rec.now result }
     {
         let history = self.core.history();
@@ -112,7 +114,8 @@ impl<D: Disk, F: Formats + Drop, P: Patterns + Drop> Shared<D, F, P> {
         parent: &KeyName,
         keys: &KeySet,
     ) -> Result<Done, SetFault>
-        requires may { (log : List Told) × MayUndo (formats_of F.Formats) D.Disk D.row.coded P.refusals plan.now.mounted self.old.core self.old.entries log rec.old }
+        requires may { (log : List Told)
+            × MayUndo (formats_of F.Formats) D.Disk D.row.coded P.refusals plan.now.mounted self.old.core self.old.entries log rec.old }
         requires fresh { told_now self.old.fresh ≡ [] }
         ensures { SetsIn (formats_of F.Formats) D.Disk D.row.coded P.refusals plan.now.mounted self.old self.new rec.old rec.new parent.now keys.now result }
     {

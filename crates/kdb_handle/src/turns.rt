@@ -47,7 +47,8 @@ impl<D: Disk, F: Formats + Drop, P: Patterns + Drop> Shared<D, F, P> {
         parent: &KeyName,
     ) -> Result<Got, GetFault>
         requires places { length plan.now.mounted ≤ places_of rec.old }
-        ensures got { (procs : ℕ → KeyMap) (records : ℕ → model.Record) (prepared : ℕ → Option sets.Prepared) → procs (handle_of rec.old) ≡ proc_of rec.old → records (handle_of rec.old) ≡ record_of rec.old
+        ensures got { (procs : ℕ → KeyMap) (records : ℕ → model.Record) (prepared : ℕ → Option sets.Prepared)
+            → procs (handle_of rec.old) ≡ proc_of rec.old → records (handle_of rec.old) ≡ record_of rec.old
             → HasGot (formats_of F.Formats) (store_of plan.now.mounted procs) plan.now.mounted self.old.core records prepared parent.now rec.old rec.new result }
         ensures handle { handle_of rec.new ≡ handle_of rec.old }
         ensures places { places_of rec.new ≡ places_of rec.old }
@@ -75,7 +76,8 @@ impl<D: Disk, F: Formats + Drop, P: Patterns + Drop> Shared<D, F, P> {
 
     /// A flush, of which the story tells nothing, whatever comes of it.
     pub(crate) fn flush(&mut self)
-        ensures shared { (log : List Told) → IsShared (formats_of F.Formats) D.Disk D.row.coded P.refusals self.old.core self.old.entries log
+        ensures shared { (log : List Told)
+            → IsShared (formats_of F.Formats) D.Disk D.row.coded P.refusals self.old.core self.old.entries log
             → IsShared (formats_of F.Formats) D.Disk D.row.coded P.refusals self.new.core self.new.entries (log ++ told_now self.new.fresh) }
         ensures told { told_now self.new.fresh ≡ [] }
     {
@@ -92,7 +94,8 @@ impl<D: Disk, F: Formats + Drop, P: Patterns + Drop> Shared<D, F, P> {
         rec: &mut Record,
         prepared: Prepared,
     ) -> Result<Done, CommitFault>
-        requires may { (log : List Told) × MayCommit (formats_of F.Formats) D.Disk D.row.coded P.refusals plan.now.mounted self.old.core self.old.entries log rec.old prepared }
+        requires may { (log : List Told)
+            × MayCommit (formats_of F.Formats) D.Disk D.row.coded P.refusals plan.now.mounted self.old.core self.old.entries log rec.old prepared }
         ensures { Commits (formats_of F.Formats) D.Disk D.row.coded P.refusals plan.now.mounted self.old self.new rec.old rec.new prepared result }
     {
         self.fresh = Fresh::Nothing;
@@ -137,7 +140,8 @@ impl<D: Disk, F: Formats + Drop, P: Patterns + Drop> Shared<D, F, P> {
     fn tell_refusal(&mut self, set: Snapshot<Prepared>, violation: &Violation)
         requires { self.old.entries < 2 ^ 64 - 1 }
         ensures told { told_now self.new.fresh ≡ told_of_refusal (prepared_of set.value) violation.now }
-        ensures count { self.new.entries ≡ self.old.entries + length (told_of_refusal (prepared_of set.value) violation.now) }
+        ensures count { self.new.entries
+            ≡ self.old.entries + length (told_of_refusal (prepared_of set.value) violation.now) }
         ensures core { self.new.core ≡ self.old.core }
     {
         if violation.rule == 6 && violation.given.as_str().len() <= LONGEST_PATTERN {

@@ -27,7 +27,8 @@ byte_decides b =
     (Decides-or (b == underscore) (b == hyphen) (Decides-eqb b underscore) (Decides-eqb b hyphen)))
 
 bytes_decide : (bytes : List ℕ) → Decides (list_all is_name_byte bytes) (All IsNameByte bytes)
-bytes_decide bytes = Decides-by_and is_name_byte IsNameByte (list_all is_name_byte) byte_decides refl (λ _ _. refl) bytes
+bytes_decide bytes =
+    Decides-by_and is_name_byte IsNameByte (list_all is_name_byte) byte_decides refl (λ _ _. refl) bytes
 
 pub is_file_name-Decides : (bytes : List ℕ) → Decides (is_file_name bytes) (IsFileName bytes)
 is_file_name-Decides bytes =

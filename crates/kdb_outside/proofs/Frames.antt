@@ -5,14 +5,16 @@ use Rattle.kdb_outside.specs.Images.{Image, KeepsImages, KeepsOtherImages, Elaps
 use Rattle.kdb_outside.specs.Frames.{GoesOn, OnlyReads}
 
 -- images that were kept twice were kept
-pub KeepsImages-then : (before middle after : List ℕ → List ℕ → Type 0) → KeepsImages before middle → KeepsImages middle after → KeepsImages before after
+pub KeepsImages-then : (before middle after : List ℕ → List ℕ → Type 0) → KeepsImages before middle
+    → KeepsImages middle after → KeepsImages before after
 KeepsImages-then before middle after first second file = record {
   no_more = λ c left. (first file).no_more c ((second file).no_more c left);
   no_fewer = λ c left. (second file).no_fewer c ((first file).no_fewer c left);
 }
 
 -- images of other files that were kept twice were kept
-pub KeepsOtherImages-then : (file : List ℕ) (before middle after : List ℕ → List ℕ → Type 0) → KeepsOtherImages file before middle → KeepsOtherImages file middle after
+pub KeepsOtherImages-then : (file : List ℕ) (before middle after : List ℕ → List ℕ → Type 0)
+    → KeepsOtherImages file before middle → KeepsOtherImages file middle after
     → KeepsOtherImages file before after
 KeepsOtherImages-then file before middle after first second other differ = record {
   no_more = λ c left. (first other differ).no_more c ((second other differ).no_more c left);
@@ -20,7 +22,8 @@ KeepsOtherImages-then file before middle after first second other differ = recor
 }
 
 -- time that goes by twice, with the images kept in the second part
-pub Elapses-then : (start next : ℕ) (past between since : ℕ → Image → Type 0) (middle after : List ℕ → List ℕ → Type 0) → start ≤ next → KeepsImages middle after
+pub Elapses-then : (start next : ℕ) (past between since : ℕ → Image → Type 0) (middle after : List ℕ → List ℕ → Type 0)
+    → start ≤ next → KeepsImages middle after
     → Elapses start past between middle → Elapses next between since after → Elapses start past since after
 Elapses-then start next past between since middle after le kept first second = record {
   nothing_else = λ moment image early left.
@@ -58,7 +61,8 @@ OnlyReads-none g disk = record {
 }
 
 -- two reads, one after the other, are one
-pub OnlyReads-then : {D : Type 0} (g : Ghosts D) (old mid new : D) → OnlyReads g old mid → OnlyReads g mid new → OnlyReads g old new
+pub OnlyReads-then : {D : Type 0} (g : Ghosts D) (old mid new : D) → OnlyReads g old mid → OnlyReads g mid new
+    → OnlyReads g old new
 OnlyReads-then g old mid new first second = record {
   same = λ told. second.same (first.tells ∙ told) ∙ first.same told;
   images = λ told. KeepsImages-then (g.may_leave old) (g.may_leave mid) (g.may_leave new) (first.images told) (second.images (first.tells ∙ told));

@@ -17,22 +17,26 @@ slice_get-append_second (x ∷ xs) ys zero i e = absurd (omega arith)
 slice_get-append_second (x ∷ xs) ys (suc n) i e = slice_get-append_second xs ys n i (omega arith)
 
 -- the length up to the end of what was written
-front_length : (before : List ℕ) (at : ℕ) (bytes : List ℕ) → at ≤ length before → length (take at before ++ bytes) ≡ at + length bytes
+front_length : (before : List ℕ) (at : ℕ) (bytes : List ℕ) → at ≤ length before
+    → length (take at before ++ bytes) ≡ at + length bytes
 front_length before at bytes within = omega (arith, length-append (take at before) bytes, length-take at before)
 
 -- the length of a file after a write
-pub length-written : (before : List ℕ) (at : ℕ) (bytes : List ℕ) → at ≤ length before → length (written before at bytes) ≡ max (length before) (at + length bytes)
+pub length-written : (before : List ℕ) (at : ℕ) (bytes : List ℕ) → at ≤ length before
+    → length (written before at bytes) ≡ max (length before) (at + length bytes)
 length-written before at bytes within =
     omega (arith, length-append (take at before ++ bytes) (drop (at + length bytes) before), front_length before at bytes within, length-drop (at + length bytes) before)
 
 -- what was written stands at its place
-pub slice_get-written : (before : List ℕ) (at : ℕ) (bytes : List ℕ) (i : ℕ) → at ≤ length before → i < length bytes → slice_get (written before at bytes) (at + i) ≡ slice_get bytes i
+pub slice_get-written : (before : List ℕ) (at : ℕ) (bytes : List ℕ) (i : ℕ) → at ≤ length before → i < length bytes
+    → slice_get (written before at bytes) (at + i) ≡ slice_get bytes i
 slice_get-written before at bytes i within inside =
     slice_get-append_first (take at before ++ bytes) _ (at + i) (omega (arith, front_length before at bytes within))
     ∙ slice_get-append_second (take at before) bytes (at + i) i (omega (arith, length-take at before))
 
 -- the write was left whole
-pub IsTornWrite-whole : (before : List ℕ) (at : ℕ) (bytes : List ℕ) → at ≤ length before → IsTornWrite at bytes before (written before at bytes)
+pub IsTornWrite-whole : (before : List ℕ) (at : ℕ) (bytes : List ℕ) → at ≤ length before
+    → IsTornWrite at bytes before (written before at bytes)
 IsTornWrite-whole before at bytes within =
     record {
       front = take-append-le at (take at before ++ bytes) _ (omega (arith, front_length before at bytes within)) ∙ take_at (take at before) bytes at (omega (arith, length-take at before));

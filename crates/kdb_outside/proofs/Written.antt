@@ -13,7 +13,8 @@ pub record HasWritten (before now : Option (List ℕ)) (piece left : List ℕ) :
   pub is : Appends before now (take count piece)
 
 -- the writer took n bytes more
-pub HasWritten-more : (before now next : Option (List ℕ)) (piece left : List ℕ) (n : ℕ) → HasWritten before now piece left → n ≤ length left → Appends now next (take n left)
+pub HasWritten-more : (before now next : Option (List ℕ)) (piece left : List ℕ) (n : ℕ)
+    → HasWritten before now piece left → n ≤ length left → Appends now next (take n left)
     → HasWritten before next piece (drop n left)
 HasWritten-more before now next piece left n so_far room more =
     let last : Appends now next (take n (drop so_far.count piece)) = subst (λ l. Appends now next (take n l)) so_far.rest more in
@@ -26,7 +27,8 @@ HasWritten-more before now next piece left n so_far room more =
     }
 
 -- the writer took nothing more
-pub HasWritten-kept : (before now next : Option (List ℕ)) (piece left : List ℕ) → HasWritten before now piece left → Keeps now next → HasWritten before next piece left
+pub HasWritten-kept : (before now next : Option (List ℕ)) (piece left : List ℕ) → HasWritten before now piece left
+    → Keeps now next → HasWritten before next piece left
 HasWritten-kept before now next piece left so_far kept =
     record {
       count = so_far.count;

@@ -35,4 +35,5 @@ abbrev pub is_name_byte : ℕ → Bool
 is_name_byte b = is_ascii_alphanumeric b || ((b == dot) || ((b == underscore) || (b == hyphen)))
 
 abbrev pub is_file_name : List ℕ → Bool
-is_file_name bytes = nat_le 1 (length bytes) && (nat_le (length bytes) longest_file_name && (list_all is_name_byte bytes && not (slice_index bytes 0 == dot)))
+is_file_name bytes =
+    nat_le 1 (length bytes) && (nat_le (length bytes) longest_file_name && (list_all is_name_byte bytes && not (slice_index bytes 0 == dot)))

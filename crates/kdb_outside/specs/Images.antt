@@ -21,7 +21,8 @@ pub record IsTornWrite (at : ℕ) (bytes before now : List ℕ) : Type 0 where
   pub back : drop (at + length bytes) now ≡ drop (at + length bytes) before
   pub no_shorter : length before ≤ length now
   pub no_longer : length now ≤ max (length before) (at + length bytes)
-  pub same : (i : ℕ) → i < length bytes → slice_get before (at + i) ≡ slice_get bytes i → slice_get now (at + i) ≡ slice_get before (at + i)
+  pub same : (i : ℕ) → i < length bytes → slice_get before (at + i) ≡ slice_get bytes i
+      → slice_get now (at + i) ≡ slice_get before (at + i)
 
 -- a crash behind a cut to this length may leave a length between, and other bytes past the cut
 pub record IsTornCut (new_length : ℕ) (before now : List ℕ) : Type 0 where
@@ -49,5 +50,6 @@ pub record Touches (file : List ℕ) (Step : List ℕ → List ℕ → Type 0) (
 
 -- while a call went on, a crash might have left what it may leave behind the call, and nothing else that is new
 pub record Elapses (before : ℕ) (past since : ℕ → Image → Type 0) (may_leave : List ℕ → List ℕ → Type 0) : Type 0 where
-  pub nothing_else : (moment : ℕ) (image : Image) → moment ≤ before → since moment image → past moment image ⊎ IsImage may_leave image
+  pub nothing_else : (moment : ℕ) (image : Image) → moment ≤ before → since moment image
+      → past moment image ⊎ IsImage may_leave image
   pub keeps : (moment : ℕ) (image : Image) → moment ≤ before → past moment image → since moment image

@@ -11,4 +11,5 @@ pub record SinkChange : Type 0 where
 
 -- the change from one state of a sink to another
 abbrev pub change_of : {K : Type 0} → Ghosts K → K → K → SinkChange
-change_of g old new = record { held_before = g.held old; held_now = g.held new; faults_before = g.faults old; faults_now = g.faults new }
+change_of g old new =
+    record { held_before = g.held old; held_now = g.held new; faults_before = g.faults old; faults_now = g.faults new }

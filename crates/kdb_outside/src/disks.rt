@@ -51,7 +51,8 @@ pub trait Disk {
         ensures told { tells self.old ≡ true → IfOk result (λ n. n ≡ length (seen self.old file.now)) }
         ensures same { tells self.old ≡ true → seen self.new ≡ seen self.old }
         ensures images { tells self.old ≡ true → KeepsImages (may_leave self.old) (may_leave self.new) }
-        ensures time { tells self.old ≡ true → Elapses (moment self.old) (left_since self.old) (left_since self.new) (may_leave self.new) }
+        ensures time { tells self.old ≡ true
+            → Elapses (moment self.old) (left_since self.old) (left_since self.new) (may_leave self.new) }
         ensures moment { moment self.old ≤ moment self.new }
         ensures tells { tells self.new ≡ tells self.old }
         ensures cause { HasCause (faults self.old) (faults self.new) result }
@@ -61,10 +62,12 @@ pub trait Disk {
     fn read_at(&mut self, file: &FileName, at: u64, buf: &mut [u8]) -> Result<usize, Failed>
         ensures within { IfOk result (λ n. n ≤ length buf.old) }
         ensures given { IfOk result (λ n. gives self.old file.now at (take n buf.new)) }
-        ensures told { tells self.old ≡ true → IfOk result (λ n. Fills (drop at (seen self.old file.now)) buf.old buf.new n) }
+        ensures told { tells self.old ≡ true
+            → IfOk result (λ n. Fills (drop at (seen self.old file.now)) buf.old buf.new n) }
         ensures same { tells self.old ≡ true → seen self.new ≡ seen self.old }
         ensures images { tells self.old ≡ true → KeepsImages (may_leave self.old) (may_leave self.new) }
-        ensures time { tells self.old ≡ true → Elapses (moment self.old) (left_since self.old) (left_since self.new) (may_leave self.new) }
+        ensures time { tells self.old ≡ true
+            → Elapses (moment self.old) (left_since self.old) (left_since self.new) (may_leave self.new) }
         ensures moment { moment self.old ≤ moment self.new }
         ensures tells { tells self.new ≡ tells self.old }
         ensures cause { HasCause (faults self.old) (faults self.new) result }
@@ -79,8 +82,10 @@ pub trait Disk {
         ensures torn { tells self.old ≡ true → OnErr result
             (IsTorn (seen self.old file.now) at (length bytes.now) (seen self.new file.now)) }
         ensures others { tells self.old ≡ true → KeepsOthers file.now (seen self.old) (seen self.new) }
-        ensures images { tells self.old ≡ true → Touches file.now (IsTornWrite at bytes.now) (may_leave self.old) (may_leave self.new) }
-        ensures time { tells self.old ≡ true → Elapses (moment self.old) (left_since self.old) (left_since self.new) (may_leave self.new) }
+        ensures images { tells self.old ≡ true
+            → Touches file.now (IsTornWrite at bytes.now) (may_leave self.old) (may_leave self.new) }
+        ensures time { tells self.old ≡ true
+            → Elapses (moment self.old) (left_since self.old) (left_since self.new) (may_leave self.new) }
         ensures moment { moment self.old ≤ moment self.new }
         ensures tells { tells self.new ≡ tells self.old }
         ensures cause { HasCause (faults self.old) (faults self.new) result }
@@ -94,8 +99,10 @@ pub trait Disk {
         ensures cut_or_not { tells self.old ≡ true → OnErr result
             (IsCutOrNot (seen self.old file.now) new_length (seen self.new file.now)) }
         ensures others { tells self.old ≡ true → KeepsOthers file.now (seen self.old) (seen self.new) }
-        ensures images { tells self.old ≡ true → Touches file.now (IsTornCut new_length) (may_leave self.old) (may_leave self.new) }
-        ensures time { tells self.old ≡ true → Elapses (moment self.old) (left_since self.old) (left_since self.new) (may_leave self.new) }
+        ensures images { tells self.old ≡ true
+            → Touches file.now (IsTornCut new_length) (may_leave self.old) (may_leave self.new) }
+        ensures time { tells self.old ≡ true
+            → Elapses (moment self.old) (left_since self.old) (left_since self.new) (may_leave self.new) }
         ensures moment { moment self.old ≤ moment self.new }
         ensures tells { tells self.new ≡ tells self.old }
         ensures cause { HasCause (faults self.old) (faults self.new) result }
@@ -105,10 +112,12 @@ pub trait Disk {
     /// is.
     fn sync(&mut self, file: &FileName) -> Result<(), Failed>
         ensures same { tells self.old ≡ true → seen self.new ≡ seen self.old }
-        ensures synced { tells self.old ≡ true → OnOk result (Only (seen self.old file.now) (may_leave self.new file.now)) }
+        ensures synced { tells self.old ≡ true
+            → OnOk result (Only (seen self.old file.now) (may_leave self.new file.now)) }
         ensures pending { tells self.old ≡ true → OnErr result (KeepsImages (may_leave self.old) (may_leave self.new)) }
         ensures others { tells self.old ≡ true → KeepsOtherImages file.now (may_leave self.old) (may_leave self.new) }
-        ensures time { tells self.old ≡ true → Elapses (moment self.old) (left_since self.old) (left_since self.new) (may_leave self.new) }
+        ensures time { tells self.old ≡ true
+            → Elapses (moment self.old) (left_since self.old) (left_since self.new) (may_leave self.new) }
         ensures moment { moment self.old ≤ moment self.new }
         ensures tells { tells self.new ≡ tells self.old }
         ensures cause { HasCause (faults self.old) (faults self.new) result }

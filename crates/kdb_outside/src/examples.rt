@@ -6,7 +6,8 @@ ghost use Rattle.kdb_outside.specs.Crashes.{EachOf, HasByte};
 
 /// A crash leaves a write whole, leaves it out, or leaves other bytes in its range.
 pub fn a_crash_tears_a_write()
-    ensures whole { (before : List ℕ) (at : ℕ) (bytes : List ℕ) → at ≤ length before → IsTornWrite at bytes before (written before at bytes) }
+    ensures whole { (before : List ℕ) (at : ℕ) (bytes : List ℕ) → at ≤ length before
+        → IsTornWrite at bytes before (written before at bytes) }
     ensures none { (before : List ℕ) (at : ℕ) (bytes : List ℕ) → IsTornWrite at bytes before before }
     ensures mixed { IsTornWrite 1 (codes "xy") (codes "abcd") (codes "axcd") }
     ensures other { (byte : ℕ) → IsTornWrite 1 (codes "xy") (codes "abcd") (97 ∷ byte ∷ 121 ∷ 100 ∷ []) }
@@ -40,7 +41,8 @@ pub fn a_crash_tears_no_more_than_a_cut()
 
 /// Of bytes that a crash leaves and no others, each has its value; of bytes that a crash may tear it need not have it.
 pub fn only_synced_bytes_are_sure()
-    ensures synced { (leaves : List ℕ → Bool) → Only (codes "axyd") (λ c. leaves c ≡ true) → EachOf (λ c. leaves c ≡ true) (HasByte 1 120) }
+    ensures synced { (leaves : List ℕ → Bool) → Only (codes "axyd") (λ c. leaves c ≡ true)
+        → EachOf (λ c. leaves c ≡ true) (HasByte 1 120) }
     ensures written { EachOf (IsTornWrite 1 (codes "xy") (codes "abcd")) (HasByte 1 120) → ⊥ }
     ensures cut { EachOf (IsTornCut 1 (codes "abcd")) (λ c. c ≡ codes "a") → ⊥ }
 {}

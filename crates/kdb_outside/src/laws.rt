@@ -32,7 +32,8 @@ pub fn a_run_goes_on_over_a_call<D: Disk, P: ImageProperty>(before: &D, after: &
 
 /// A call that leaves the images as they were, as a read, leaves each property of a run as it was.
 pub fn a_run_goes_on_over_a_read<D: Disk, P: ImageProperty>(before: &D, after: &D)
-    ensures images { EveryImage (D.may_leave before.now) P.holds → KeepsImages (D.may_leave before.now) (D.may_leave after.now)
+    ensures images { EveryImage (D.may_leave before.now) P.holds
+        → KeepsImages (D.may_leave before.now) (D.may_leave after.now)
         → EveryImage (D.may_leave after.now) P.holds }
     ensures moments { (since : ℕ) → since ≤ D.moment before.now → EverySince (D.left_since before.now) since P.holds
         → EveryImage (D.may_leave before.now) P.holds → KeepsImages (D.may_leave before.now) (D.may_leave after.now)
@@ -43,13 +44,15 @@ pub fn a_run_goes_on_over_a_read<D: Disk, P: ImageProperty>(before: &D, after: &
 /// Calls that only read, one after the other, are one such call, and so is no call.
 pub fn reads_are_one_read<D: Disk>(before: &D, between: &D, after: &D)
     ensures none { OnlyReads D.Disk before.now before.now }
-    ensures two { OnlyReads D.Disk before.now between.now → OnlyReads D.Disk between.now after.now → OnlyReads D.Disk before.now after.now }
+    ensures two { OnlyReads D.Disk before.now between.now → OnlyReads D.Disk between.now after.now
+        → OnlyReads D.Disk before.now after.now }
 {}
 
 /// Calls that go on, one after the other, are one such call, and a call that only reads goes on.
 pub fn calls_go_on_as_one<D: Disk>(before: &D, between: &D, after: &D)
     ensures read { OnlyReads D.Disk before.now after.now → GoesOn D.Disk before.now after.now }
-    ensures two { GoesOn D.Disk before.now between.now → GoesOn D.Disk between.now after.now → GoesOn D.Disk before.now after.now }
+    ensures two { GoesOn D.Disk before.now between.now → GoesOn D.Disk between.now after.now
+        → GoesOn D.Disk before.now after.now }
 {}
 
 /// What a crash leaves of one file has the properties that it had before a call on another file.
@@ -65,14 +68,16 @@ pub fn calls_on_other_files_touch_no_property<D: Disk, Q: ContentProperty>(
 
 /// What everything that a crash leaves of a file has, each image has at that file.
 pub fn images_have_what_contents_have<D: Disk, Q: ContentProperty>(disk: &D, file: &FileName)
-    ensures { EachOf (D.may_leave disk.now file.now) Q.holds → EveryImage (D.may_leave disk.now) (λ image. Q.holds (image file.now)) }
+    ensures { EachOf (D.may_leave disk.now file.now) Q.holds
+        → EveryImage (D.may_leave disk.now) (λ image. Q.holds (image file.now)) }
 {}
 
 /// A weaker property holds wherever a property does.
 pub fn weaker_properties_hold_too<D: Disk, P: ImageProperty, Q: ImageProperty>(disk: &D)
     ensures images { ((image : Image) → P.holds image → Q.holds image) → EveryImage (D.may_leave disk.now) P.holds
         → EveryImage (D.may_leave disk.now) Q.holds }
-    ensures moments { (since : ℕ) → ((image : Image) → P.holds image → Q.holds image) → EverySince (D.left_since disk.now) since P.holds
+    ensures moments { (since : ℕ) → ((image : Image) → P.holds image → Q.holds image)
+        → EverySince (D.left_since disk.now) since P.holds
         → EverySince (D.left_since disk.now) since Q.holds }
 {}
 
@@ -80,7 +85,8 @@ pub fn weaker_properties_hold_too<D: Disk, P: ImageProperty, Q: ImageProperty>(d
 pub fn a_byte_written_again_stays<D: Disk>(before: &D, after: &D, file: &FileName)
     ensures { (at : ℕ) (bytes : List ℕ) (i value : ℕ) → i < length bytes → slice_get bytes i ≡ Some value
         → Touches file.now (IsTornWrite at bytes) (D.may_leave before.now) (D.may_leave after.now)
-        → EachOf (D.may_leave before.now file.now) (HasByte (at + i) value) → EachOf (D.may_leave after.now file.now) (HasByte (at + i) value) }
+        → EachOf (D.may_leave before.now file.now) (HasByte (at + i) value)
+        → EachOf (D.may_leave after.now file.now) (HasByte (at + i) value) }
 {}
 
 /// A byte outside the range of a write, or before the length of a cut, keeps its value in everything that a crash
@@ -88,11 +94,14 @@ pub fn a_byte_written_again_stays<D: Disk>(before: &D, after: &D, file: &FileNam
 pub fn a_byte_out_of_reach_stays<D: Disk>(before: &D, after: &D, file: &FileName)
     ensures before_write { (at : ℕ) (bytes : List ℕ) (place value : ℕ) → place < at
         → Touches file.now (IsTornWrite at bytes) (D.may_leave before.now) (D.may_leave after.now)
-        → EachOf (D.may_leave before.now file.now) (HasByte place value) → EachOf (D.may_leave after.now file.now) (HasByte place value) }
+        → EachOf (D.may_leave before.now file.now) (HasByte place value)
+        → EachOf (D.may_leave after.now file.now) (HasByte place value) }
     ensures behind_write { (at : ℕ) (bytes : List ℕ) (place value : ℕ) → at + length bytes ≤ place
         → Touches file.now (IsTornWrite at bytes) (D.may_leave before.now) (D.may_leave after.now)
-        → EachOf (D.may_leave before.now file.now) (HasByte place value) → EachOf (D.may_leave after.now file.now) (HasByte place value) }
+        → EachOf (D.may_leave before.now file.now) (HasByte place value)
+        → EachOf (D.may_leave after.now file.now) (HasByte place value) }
     ensures before_cut { (new_length place value : ℕ) → place < new_length
         → Touches file.now (IsTornCut new_length) (D.may_leave before.now) (D.may_leave after.now)
-        → EachOf (D.may_leave before.now file.now) (HasByte place value) → EachOf (D.may_leave after.now file.now) (HasByte place value) }
+        → EachOf (D.may_leave before.now file.now) (HasByte place value)
+        → EachOf (D.may_leave after.now file.now) (HasByte place value) }
 {}

@@ -30,7 +30,8 @@ loud replies = filter (λ reply. not (is_quiet reply)) replies
 abbrev pub words_of_sessions : List Steps → List (List Reply) → List Line
 words_of_sessions [] replies = []
 words_of_sessions (steps ∷ others) [] = []
-words_of_sessions (steps ∷ others) (replies ∷ rest) = (codes "session", decimal steps.session ∷ []) ∷ (flat_map words_of_lines (loud replies) ++ words_of_sessions others rest)
+words_of_sessions (steps ∷ others) (replies ∷ rest) =
+    (codes "session", decimal steps.session ∷ []) ∷ (flat_map words_of_lines (loud replies) ++ words_of_sessions others rest)
 
 abbrev pub words_of_phases : ℕ → List Phase → List (List (List Reply)) → List Line
 words_of_phases number [] replies = []
@@ -38,19 +39,22 @@ words_of_phases number (phase ∷ phases) [] = []
 words_of_phases number (phase ∷ phases) (replies ∷ rest) =
     (codes "phase", decimal number ∷ []) ∷ (words_of_sessions phase.sessions replies ++ words_of_phases (number + 1) phases rest)
 
-replies-spell : (replies : List Reply) → AllSpell (flat_map words_of_lines (loud replies)) (flat_map lines_of_reply replies)
+replies-spell : (replies : List Reply)
+    → AllSpell (flat_map words_of_lines (loud replies)) (flat_map lines_of_reply replies)
 replies-spell [] = tt
 replies-spell (Quiet ∷ replies) = replies-spell replies
 replies-spell (reply ∷ replies) =
     AllSpell-append (words_of_lines reply) (flat_map words_of_lines (loud replies)) (lines_of_reply reply) (flat_map lines_of_reply replies) (reply-spells reply refl) (replies-spell replies)
 
-sessions-spell : (sessions : List Steps) (replies : List (List Reply)) → AllSpell (words_of_sessions sessions replies) (lines_of_sessions sessions replies)
+sessions-spell : (sessions : List Steps) (replies : List (List Reply))
+    → AllSpell (words_of_sessions sessions replies) (lines_of_sessions sessions replies)
 sessions-spell [] replies = tt
 sessions-spell (steps ∷ others) [] = tt
 sessions-spell (steps ∷ others) (replies ∷ rest) =
     (λ text. refl, AllSpell-append (flat_map words_of_lines (loud replies)) (words_of_sessions others rest) (flat_map lines_of_reply replies) (lines_of_sessions others rest) (replies-spell replies) (sessions-spell others rest))
 
-pub phases-spell : (number : ℕ) (phases : List Phase) (replies : List (List (List Reply))) → AllSpell (words_of_phases number phases replies) (lines_of_phases number phases replies)
+pub phases-spell : (number : ℕ) (phases : List Phase) (replies : List (List (List Reply)))
+    → AllSpell (words_of_phases number phases replies) (lines_of_phases number phases replies)
 phases-spell number [] replies = tt
 phases-spell number (phase ∷ phases) [] = tt
 phases-spell number (phase ∷ phases) (replies ∷ rest) =
@@ -58,15 +62,18 @@ phases-spell number (phase ∷ phases) (replies ∷ rest) =
 
 replies-HasWords : (replies : List Reply) → AllByRecursion HasWords (flat_map words_of_lines replies)
 replies-HasWords [] = tt
-replies-HasWords (reply ∷ replies) = words-append (words_of_lines reply) (flat_map words_of_lines replies) (reply-HasWords reply) (replies-HasWords replies)
+replies-HasWords (reply ∷ replies) =
+    words-append (words_of_lines reply) (flat_map words_of_lines replies) (reply-HasWords reply) (replies-HasWords replies)
 
-sessions-HasWords : (sessions : List Steps) (replies : List (List Reply)) → AllByRecursion HasWords (words_of_sessions sessions replies)
+sessions-HasWords : (sessions : List Steps) (replies : List (List Reply))
+    → AllByRecursion HasWords (words_of_sessions sessions replies)
 sessions-HasWords [] replies = tt
 sessions-HasWords (steps ∷ others) [] = tt
 sessions-HasWords (steps ∷ others) (replies ∷ rest) =
     ((Plain refl, (number-IsWord steps.session, tt)), words-append (flat_map words_of_lines (loud replies)) (words_of_sessions others rest) (replies-HasWords (loud replies)) (sessions-HasWords others rest))
 
-pub phases-HasWords : (number : ℕ) (phases : List Phase) (replies : List (List (List Reply))) → AllByRecursion HasWords (words_of_phases number phases replies)
+pub phases-HasWords : (number : ℕ) (phases : List Phase) (replies : List (List (List Reply)))
+    → AllByRecursion HasWords (words_of_phases number phases replies)
 phases-HasWords number [] replies = tt
 phases-HasWords number (phase ∷ phases) [] = tt
 phases-HasWords number (phase ∷ phases) (replies ∷ rest) =
@@ -109,24 +116,29 @@ kind_small Quiet = omega arith
 last_small : (reply : Reply) → kind_of (words_of reply) ≤ 10
 last_small reply = let is = reply-kind reply in let small = kind_small reply in omega arith
 
-not_begun : (tried : List Tried) (last : Line) (lines : List Line) → kind_of last ≤ 10 → Begins (over words_of_try tried ++ last ∷ lines) → ⊥
+not_begun : (tried : List Tried) (last : Line) (lines : List Line) → kind_of last ≤ 10
+    → Begins (over words_of_try tried ++ last ∷ lines) → ⊥
 not_begun [] last lines small begins = omega arith
 not_begun (item ∷ tried) last lines small begins = numbers_test 12 11 begins
 
 -- the lines of a reply and what stands behind them: its tries, its last line, its changes, and the others
 lines-behind : (reply : Reply) (others rest : List Line)
-    → (words_of_lines reply ++ others) ++ rest ≡ over words_of_try (tries_of reply) ++ words_of reply ∷ (over words_of_changed (changes_of reply) ++ (others ++ rest))
+    → (words_of_lines reply ++ others) ++ rest
+    ≡ over words_of_try (tries_of reply) ++ words_of reply ∷ (over words_of_changed (changes_of reply) ++ (others ++ rest))
 lines-behind reply others rest =
     append_assoc (words_of_lines reply) others rest
     ∙ append_assoc (over words_of_try (tries_of reply)) (words_of reply ∷ over words_of_changed (changes_of reply)) (others ++ rest)
 
 -- no reply goes on where lines begin another session
-no_reply : (reply : Reply) (replies : List Reply) (s t : List Line) → Begins s → s ≢ (words_of_lines reply ++ flat_map words_of_lines replies) ++ t
+no_reply : (reply : Reply) (replies : List Reply) (s t : List Line) → Begins s
+    → s ≢ (words_of_lines reply ++ flat_map words_of_lines replies) ++ t
 no_reply reply replies s t begins e =
     not_begun (tries_of reply) (words_of reply) (over words_of_changed (changes_of reply) ++ (flat_map words_of_lines replies ++ t)) (last_small reply) (subst Begins (e ∙ lines-behind reply (flat_map words_of_lines replies) t) begins)
 
 -- where the tries of a merge end
-tries-cut : (xs ys : List Tried) (l m : Line) (s t : List Line) → AllByRecursion IsTry xs → AllByRecursion IsTry ys → kind_of l ≤ 10 → kind_of m ≤ 10 → over words_of_try xs ++ l ∷ s ≡ over words_of_try ys ++ m ∷ t → (xs ≡ ys) × (l ≡ m) × (s ≡ t)
+tries-cut : (xs ys : List Tried) (l m : Line) (s t : List Line) → AllByRecursion IsTry xs → AllByRecursion IsTry ys
+    → kind_of l ≤ 10 → kind_of m ≤ 10 → over words_of_try xs ++ l ∷ s ≡ over words_of_try ys ++ m ∷ t
+    → (xs ≡ ys) × (l ≡ m) × (s ≡ t)
 tries-cut [] [] l m s t hs ks p q e = (refl, ap (line_at 0) e, ap (drop 1) e)
 tries-cut [] (y ∷ ys) l m s t hs ks p q e =
     let first : l ≡ words_of_try y = ap (line_at 0) e in
@@ -150,7 +162,8 @@ NoChanged [] = Unit {0}
 NoChanged (line ∷ lines) = kind_of line ≤ 12
 
 -- where the changes of a poll end
-changes-cut : (xs ys : List Changed) (s t : List Line) → AllByRecursion IsChanged xs → AllByRecursion IsChanged ys → NoChanged s → NoChanged t → over words_of_changed xs ++ s ≡ over words_of_changed ys ++ t → (xs ≡ ys) × (s ≡ t)
+changes-cut : (xs ys : List Changed) (s t : List Line) → AllByRecursion IsChanged xs → AllByRecursion IsChanged ys
+    → NoChanged s → NoChanged t → over words_of_changed xs ++ s ≡ over words_of_changed ys ++ t → (xs ≡ ys) × (s ≡ t)
 changes-cut [] [] s t hs ks p q e = (refl, e)
 changes-cut [] (y ∷ ys) [] t hs ks p q e = absurd cc
 changes-cut [] (y ∷ ys) (line ∷ s) t hs ks p q e =
@@ -170,7 +183,8 @@ changes-all (News news) is = is.2
 changes-all reply is = tt
 
 -- neither a reply nor what begins something begins with a change
-tries-first : (tried : List Tried) (last : Line) (lines : List Line) → kind_of last ≤ 10 → NoChanged (over words_of_try tried ++ last ∷ lines)
+tries-first : (tried : List Tried) (last : Line) (lines : List Line) → kind_of last ≤ 10
+    → NoChanged (over words_of_try tried ++ last ∷ lines)
 tries-first [] last lines small = omega (arith, small)
 tries-first (item ∷ tried) last lines small = let is : kind_of (words_of_try item) ≡ 12 = refl in omega (arith, is)
 
@@ -181,7 +195,9 @@ replies-first (reply ∷ replies) s begins =
     subst NoChanged (sym (lines-behind reply (flat_map words_of_lines replies) s))
     (tries-first (tries_of reply) (words_of reply) (over words_of_changed (changes_of reply) ++ (flat_map words_of_lines replies ++ s)) (last_small reply))
 
-replies-cut : (xs ys : List Reply) (s t : List Line) → AllByRecursion IsReply xs → AllByRecursion IsReply ys → Begins s → Begins t → flat_map words_of_lines xs ++ s ≡ flat_map words_of_lines ys ++ t → (over told_of xs ≡ over told_of ys) × (s ≡ t)
+replies-cut : (xs ys : List Reply) (s t : List Line) → AllByRecursion IsReply xs → AllByRecursion IsReply ys → Begins s
+    → Begins t → flat_map words_of_lines xs ++ s ≡ flat_map words_of_lines ys ++ t
+    → (over told_of xs ≡ over told_of ys) × (s ≡ t)
 replies-cut [] [] s t hs ks p q e = (refl, e)
 replies-cut [] (y ∷ ys) s t hs ks p q e = absurd (no_reply y ys s t p e)
 replies-cut (x ∷ xs) [] s t hs ks p q e = absurd (no_reply x xs t s q (sym e))
@@ -208,17 +224,21 @@ loud-all [] all = tt
 loud-all (Quiet ∷ replies) all = loud-all replies all.1
 loud-all (reply ∷ replies) all = (all.0, loud-all replies all.1)
 
-sessions-begin : (sessions : List Steps) (replies : List (List Reply)) (s : List Line) → Begins s → Begins (words_of_sessions sessions replies ++ s)
+sessions-begin : (sessions : List Steps) (replies : List (List Reply)) (s : List Line) → Begins s
+    → Begins (words_of_sessions sessions replies ++ s)
 sessions-begin [] replies s p = p
 sessions-begin (steps ∷ others) [] s p = p
 sessions-begin (steps ∷ others) (replies ∷ rest) s p = refl
 
-pub phases-begin : (number : ℕ) (phases : List Phase) (replies : List (List (List Reply))) (s : List Line) → Begins s → Begins (words_of_phases number phases replies ++ s)
+pub phases-begin : (number : ℕ) (phases : List Phase) (replies : List (List (List Reply))) (s : List Line) → Begins s
+    → Begins (words_of_phases number phases replies ++ s)
 phases-begin number [] replies s p = p
 phases-begin number (phase ∷ phases) [] s p = p
 phases-begin number (phase ∷ phases) (replies ∷ rest) s p = refl
 
-sessions-cut : (sessions : List Steps) (xs ys : List (List Reply)) (s t : List Line) → AreOfSessions sessions xs → AreOfSessions sessions ys → Begins s → Begins t → words_of_sessions sessions xs ++ s ≡ words_of_sessions sessions ys ++ t → (over told xs ≡ over told ys) × (s ≡ t)
+sessions-cut : (sessions : List Steps) (xs ys : List (List Reply)) (s t : List Line) → AreOfSessions sessions xs
+    → AreOfSessions sessions ys → Begins s → Begins t
+    → words_of_sessions sessions xs ++ s ≡ words_of_sessions sessions ys ++ t → (over told xs ≡ over told ys) × (s ≡ t)
 sessions-cut [] [] [] s t hs ks p q e = (refl, e)
 sessions-cut [] [] (y ∷ ys) s t hs ks p q e = absurd ks
 sessions-cut [] (x ∷ xs) ys s t hs ks p q e = absurd hs
@@ -231,8 +251,10 @@ sessions-cut (steps ∷ others) (x ∷ xs) (y ∷ ys) s t hs ks p q e =
     let rest = sessions-cut others xs ys s t hs.1 ks.1 p q first.1 in
     (ap₂ (λ replies all. replies ∷ all) first.0 rest.0, rest.1)
 
-pub phases-cut : (number : ℕ) (phases : List Phase) (xs ys : List (List (List Reply))) (s t : List Line) → AreOfPhases phases xs → AreOfPhases phases ys → Begins s → Begins t
-    → words_of_phases number phases xs ++ s ≡ words_of_phases number phases ys ++ t → (over (over told) xs ≡ over (over told) ys) × (s ≡ t)
+pub phases-cut : (number : ℕ) (phases : List Phase) (xs ys : List (List (List Reply))) (s t : List Line)
+    → AreOfPhases phases xs → AreOfPhases phases ys → Begins s → Begins t
+    → words_of_phases number phases xs ++ s ≡ words_of_phases number phases ys ++ t
+    → (over (over told) xs ≡ over (over told) ys) × (s ≡ t)
 phases-cut number [] [] [] s t hs ks p q e = (refl, e)
 phases-cut number [] [] (y ∷ ys) s t hs ks p q e = absurd ks
 phases-cut number [] (x ∷ xs) ys s t hs ks p q e = absurd hs

@@ -47,7 +47,8 @@ asks-least (step ∷ steps) (reply ∷ replies) of =
           omega arith
     ]
 
-asks-told : (steps : List Step) (replies : List Reply) → AreOfSteps steps replies → EditAll steps replies → length (told replies) ≡ asks steps
+asks-told : (steps : List Step) (replies : List Reply) → AreOfSteps steps replies → EditAll steps replies
+    → length (told replies) ≡ asks steps
 asks-told [] [] of all = refl
 asks-told [] (reply ∷ replies) of all = absurd of
 asks-told (step ∷ steps) [] of all = absurd of
@@ -65,7 +66,8 @@ asks-told (step ∷ steps) (reply ∷ replies) of all =
     ]
 
 -- so where no line is left over, no edit wanted memory
-all_edited : (steps : List Step) (replies : List Reply) → AreOfSteps steps replies → length (told replies) ≤ asks steps → EditAll steps replies
+all_edited : (steps : List Step) (replies : List Reply) → AreOfSteps steps replies → length (told replies) ≤ asks steps
+    → EditAll steps replies
 all_edited [] replies of few = tt
 all_edited (step ∷ steps) [] of few = tt
 all_edited (step ∷ steps) (reply ∷ replies) of few =
@@ -89,7 +91,8 @@ all_edited (step ∷ steps) (reply ∷ replies) of few =
 
 -- ---- and so is the kind of its step
 
-said-same : (step : Step) (x y : Reply) → IsReplyTo step x → IsReplyTo step y → told_of x ≡ told_of y → said_of x ≡ said_of y
+said-same : (step : Step) (x y : Reply) → IsReplyTo step x → IsReplyTo step y → told_of x ≡ told_of y
+    → said_of x ≡ said_of y
 said-same step x y of also same =
     let wants : is_memory x ≡ is_memory y = sym (memory-told_of x) ∙ (ap wants_memory same ∙ memory-told_of y) in
     let tries : tries_of x ≡ tries_of y = ap (λ said. said.0) same in
@@ -106,7 +109,8 @@ said-same step x y of also same =
           ap said_of (reply-same step x y of also no_memory none tries last)
     ]
 
-steps-exact : (steps : List Step) (xs ys : List Reply) → AreOfSteps steps xs → AreOfSteps steps ys → EditAll steps xs → EditAll steps ys → told xs ≡ told ys → over said_of xs ≡ over said_of ys
+steps-exact : (steps : List Step) (xs ys : List Reply) → AreOfSteps steps xs → AreOfSteps steps ys → EditAll steps xs
+    → EditAll steps ys → told xs ≡ told ys → over said_of xs ≡ over said_of ys
 steps-exact [] [] [] of also done all e = refl
 steps-exact [] [] (y ∷ ys) of also done all e = absurd also
 steps-exact [] (x ∷ xs) ys of also done all e = absurd of
@@ -125,32 +129,41 @@ steps-exact (step ∷ steps) (x ∷ xs) (y ∷ ys) of also done all e =
 
 -- ---- at a place of a batch
 
-phases-at : (phases : List Phase) (rows : List (List (List Reply))) (p : ℕ) (phase : Phase) (row : List (List Reply)) → AreOfPhases phases rows → slice_get phases p ≡ Some phase → slice_get rows p ≡ Some row → AreOfSessions phase.sessions row
+phases-at : (phases : List Phase) (rows : List (List (List Reply))) (p : ℕ) (phase : Phase) (row : List (List Reply))
+    → AreOfPhases phases rows → slice_get phases p ≡ Some phase → slice_get rows p ≡ Some row
+    → AreOfSessions phase.sessions row
 phases-at [] rows p phase row of at there = absurd cc
 phases-at (first ∷ phases) [] p phase row of at there = absurd of
 phases-at (first ∷ phases) (one ∷ rows) zero phase row of at there =
     subst (λ (ph : Phase). AreOfSessions ph.sessions row) (some_is first phase at) (subst (AreOfSessions first.sessions) (some_is one row there) of.0)
 phases-at (first ∷ phases) (one ∷ rows) (suc p) phase row of at there = phases-at phases rows p phase row of.1 at there
 
-sessions-at : (sessions : List Steps) (row : List (List Reply)) (i : ℕ) (session : Steps) (mine : List Reply) → AreOfSessions sessions row → slice_get sessions i ≡ Some session → slice_get row i ≡ Some mine → AreOfSteps session.steps mine
+sessions-at : (sessions : List Steps) (row : List (List Reply)) (i : ℕ) (session : Steps) (mine : List Reply)
+    → AreOfSessions sessions row → slice_get sessions i ≡ Some session → slice_get row i ≡ Some mine
+    → AreOfSteps session.steps mine
 sessions-at [] row i session mine of at there = absurd cc
 sessions-at (first ∷ sessions) [] i session mine of at there = absurd of
 sessions-at (first ∷ sessions) (one ∷ row) zero session mine of at there =
     subst (λ (s : Steps). AreOfSteps s.steps mine) (some_is first session at) (subst (AreOfSteps first.steps) (some_is one mine there) of.0)
-sessions-at (first ∷ sessions) (one ∷ row) (suc i) session mine of at there = sessions-at sessions row i session mine of.1 at there
+sessions-at (first ∷ sessions) (one ∷ row) (suc i) session mine of at there =
+    sessions-at sessions row i session mine of.1 at there
 
 -- what two lists come to alike, their elements at a place do
-alike-at : {A B : Type 0} (f : A → B) (xs ys : List A) (i : ℕ) (x y : A) → over f xs ≡ over f ys → slice_get xs i ≡ Some x → slice_get ys i ≡ Some y → f x ≡ f y
+alike-at : {A B : Type 0} (f : A → B) (xs ys : List A) (i : ℕ) (x y : A) → over f xs ≡ over f ys
+    → slice_get xs i ≡ Some x → slice_get ys i ≡ Some y → f x ≡ f y
 alike-at {A} {B} f xs ys i x y same at there =
     some_is (f x) (f y) (sym (slice_get-map f xs i ∙ ap (option_map f) at) ∙ (ap (λ (l : List B). slice_get l i) same ∙ (slice_get-map f ys i ∙ ap (option_map f) there)))
 
-steps-at : (script : Script) (replies : List (List (List Reply))) (p i : ℕ) (steps : List Step) (mine : List Reply) → AreOfPhases script.phases replies → StandAt script replies p i steps mine → AreOfSteps steps mine
+steps-at : (script : Script) (replies : List (List (List Reply))) (p i : ℕ) (steps : List Step) (mine : List Reply)
+    → AreOfPhases script.phases replies → StandAt script replies p i steps mine → AreOfSteps steps mine
 steps-at script replies p i steps mine of it =
     subst (λ (s : List Step). AreOfSteps s mine) (sym it.steps_are)
     (sessions-at it.phase.sessions it.row i it.session mine (phases-at script.phases replies p it.phase it.row of it.phase_is it.row_is) it.session_is it.mine_is)
 
-pub exact-once : (script : Script) (a b : List (List (List Reply))) → AreOfPhases script.phases a → AreOfPhases script.phases b → over (over told) a ≡ over (over told) b
-    → (p i : ℕ) (steps : List Step) (mine others : List Reply) → StandAt script a p i steps mine → StandAt script b p i steps others → EditAll steps mine → over said_of mine ≡ over said_of others
+pub exact-once : (script : Script) (a b : List (List (List Reply))) → AreOfPhases script.phases a
+    → AreOfPhases script.phases b → over (over told) a ≡ over (over told) b
+    → (p i : ℕ) (steps : List Step) (mine others : List Reply) → StandAt script a p i steps mine
+    → StandAt script b p i steps others → EditAll steps mine → over said_of mine ≡ over said_of others
 exact-once script a b of also e p i steps mine others one other done =
     let fits = steps-at script a p i steps mine of one in
     let fit = steps-at script b p i steps others also other in

@@ -26,7 +26,8 @@ abbrev pub words_of_meta : List ℕ × List ℕ → Line
 words_of_meta (name, text) = (codes ".", quoted name ∷ quoted text ∷ [])
 
 abbrev pub words_of_key : Name → Entry → List Line
-words_of_key name entry = (codes "+", shown name ∷ quoted entry.value ∷ []) ∷ over words_of_meta (map.entries entry.meta)
+words_of_key name entry =
+    (codes "+", shown name ∷ quoted entry.value ∷ []) ∷ over words_of_meta (map.entries entry.meta)
 
 abbrev pub words_of_change : Change → List Line
 words_of_change (name, Some entry) = words_of_key name entry
@@ -40,7 +41,8 @@ words_of_commit mounts sessions number commit =
 
 abbrev pub words_of_commits : List Mount → List ℕ → ℕ → List Commit → List Line
 words_of_commits mounts sessions number [] = []
-words_of_commits mounts sessions number (commit ∷ commits) = words_of_commit mounts sessions number commit ++ words_of_commits mounts sessions (number + 1) commits
+words_of_commits mounts sessions number (commit ∷ commits) =
+    words_of_commit mounts sessions number commit ++ words_of_commits mounts sessions (number + 1) commits
 
 metas-spell : (items : List (List ℕ × List ℕ)) → AllSpell (over words_of_meta items) (over line_of_meta items)
 metas-spell [] = tt
@@ -58,10 +60,13 @@ changes-spell (change ∷ changes) =
 touched-spells : (points : List Name) → Spells (codes "touched", over shown points) (line_of_touched points)
 touched-spells points rest = ap (λ text. codes "touched" ++ text) (names-spell points rest)
 
-commit-spells : (mounts : List Mount) (sessions : List ℕ) (number : ℕ) (commit : Commit) → AllSpell (words_of_commit mounts sessions number commit) (lines_of_commit mounts sessions number commit)
-commit-spells mounts sessions number commit = (λ rest. simp append_assoc, (touched-spells (points_of mounts commit.touched), changes-spell commit.changes))
+commit-spells : (mounts : List Mount) (sessions : List ℕ) (number : ℕ) (commit : Commit)
+    → AllSpell (words_of_commit mounts sessions number commit) (lines_of_commit mounts sessions number commit)
+commit-spells mounts sessions number commit =
+    (λ rest. simp append_assoc, (touched-spells (points_of mounts commit.touched), changes-spell commit.changes))
 
-pub commits-spell : (mounts : List Mount) (sessions : List ℕ) (number : ℕ) (commits : List Commit) → AllSpell (words_of_commits mounts sessions number commits) (lines_of_commits mounts sessions number commits)
+pub commits-spell : (mounts : List Mount) (sessions : List ℕ) (number : ℕ) (commits : List Commit)
+    → AllSpell (words_of_commits mounts sessions number commits) (lines_of_commits mounts sessions number commits)
 commits-spell mounts sessions number [] = tt
 commits-spell mounts sessions number (commit ∷ commits) =
     AllSpell-append (words_of_commit mounts sessions number commit) (words_of_commits mounts sessions (number + 1) commits) (lines_of_commit mounts sessions number commit) (lines_of_commits mounts sessions (number + 1) commits)
@@ -69,17 +74,21 @@ commits-spell mounts sessions number (commit ∷ commits) =
 
 metas-HasWords : (items : List (List ℕ × List ℕ)) → AllByRecursion HasWords (over words_of_meta items)
 metas-HasWords [] = tt
-metas-HasWords ((name, text) ∷ items) = ((Plain refl, (quoted-IsWord name, (quoted-IsWord text, tt))), metas-HasWords items)
+metas-HasWords ((name, text) ∷ items) =
+    ((Plain refl, (quoted-IsWord name, (quoted-IsWord text, tt))), metas-HasWords items)
 
 change-HasWords : (change : Change) → AllByRecursion HasWords (words_of_change change)
-change-HasWords (name, Some entry) = ((Plain refl, (name-IsWord name, (quoted-IsWord entry.value, tt))), metas-HasWords (map.entries entry.meta))
+change-HasWords (name, Some entry) =
+    ((Plain refl, (name-IsWord name, (quoted-IsWord entry.value, tt))), metas-HasWords (map.entries entry.meta))
 change-HasWords (name, None) = ((Plain refl, (name-IsWord name, tt)), tt)
 
 changes-HasWords : (changes : List Change) → AllByRecursion HasWords (flat_map words_of_change changes)
 changes-HasWords [] = tt
-changes-HasWords (change ∷ changes) = words-append (words_of_change change) (flat_map words_of_change changes) (change-HasWords change) (changes-HasWords changes)
+changes-HasWords (change ∷ changes) =
+    words-append (words_of_change change) (flat_map words_of_change changes) (change-HasWords change) (changes-HasWords changes)
 
-pub commits-HasWords : (mounts : List Mount) (sessions : List ℕ) (number : ℕ) (commits : List Commit) → AllByRecursion HasWords (words_of_commits mounts sessions number commits)
+pub commits-HasWords : (mounts : List Mount) (sessions : List ℕ) (number : ℕ) (commits : List Commit)
+    → AllByRecursion HasWords (words_of_commits mounts sessions number commits)
 commits-HasWords mounts sessions number [] = tt
 commits-HasWords mounts sessions number (commit ∷ commits) =
     words-append (words_of_commit mounts sessions number commit) (words_of_commits mounts sessions (number + 1) commits)
@@ -103,7 +112,8 @@ first_same e = ap (λ lines. word_at 0 (line_at 0 lines)) e
 other_byte : (a b : List ℕ) → slice_index a 0 ≢ slice_index b 0 → a ≢ b
 other_byte a b other e = other (ap (λ word. slice_index word 0) e)
 
-metas-cut : (xs ys : List (List ℕ × List ℕ)) (s t : List Line) → NoMeta s → NoMeta t → over words_of_meta xs ++ s ≡ over words_of_meta ys ++ t → (xs ≡ ys) × (s ≡ t)
+metas-cut : (xs ys : List (List ℕ × List ℕ)) (s t : List Line) → NoMeta s → NoMeta t
+    → over words_of_meta xs ++ s ≡ over words_of_meta ys ++ t → (xs ≡ ys) × (s ≡ t)
 metas-cut [] [] s t p q e = (refl, e)
 metas-cut [] ((m, v) ∷ ys) [] t p q e = absurd cc
 metas-cut [] ((m, v) ∷ ys) ((first, words) ∷ s) t p q e = absurd (p (first_same e))
@@ -121,10 +131,13 @@ no_meta [] ((first, words) ∷ s) p = p.2
 no_meta ((name, Some entry) ∷ changes) s p = other_byte (codes "+") (codes ".") (λ e. numbers_test 43 46 e)
 no_meta ((name, None) ∷ changes) s p = other_byte (codes "-") (codes ".") (λ e. numbers_test 45 46 e)
 
-same_key : (n m : Name) (d e : Entry) → n ≡ m → d.value ≡ e.value → d.meta ≡ e.meta → ◌≡◌ {A = Change} (n, Some d) (m, Some e)
+same_key : (n m : Name) (d e : Entry) → n ≡ m → d.value ≡ e.value → d.meta ≡ e.meta
+    → ◌≡◌ {A = Change} (n, Some d) (m, Some e)
 same_key n m d e name value meta = λ i. (name i, Some (record { value = value i; meta = meta i }))
 
-changes-cut : (xs ys : List Change) (s t : List Line) → AllByRecursion (λ change. IsName change.0) xs → AllByRecursion (λ change. IsName change.0) ys → NoChange s → NoChange t → flat_map words_of_change xs ++ s ≡ flat_map words_of_change ys ++ t → (xs ≡ ys) × (s ≡ t)
+changes-cut : (xs ys : List Change) (s t : List Line) → AllByRecursion (λ change. IsName change.0) xs
+    → AllByRecursion (λ change. IsName change.0) ys → NoChange s → NoChange t
+    → flat_map words_of_change xs ++ s ≡ flat_map words_of_change ys ++ t → (xs ≡ ys) × (s ≡ t)
 changes-cut [] [] s t hs ks p q e = (refl, e)
 changes-cut [] ((m, Some d) ∷ ys) [] t hs ks p q e = absurd cc
 changes-cut [] ((m, None) ∷ ys) [] t hs ks p q e = absurd cc
@@ -134,8 +147,10 @@ changes-cut ((n, Some d) ∷ xs) [] s [] hs ks p q e = absurd cc
 changes-cut ((n, None) ∷ xs) [] s [] hs ks p q e = absurd cc
 changes-cut ((n, Some d) ∷ xs) [] s ((first, words) ∷ t) hs ks p q e = absurd (q.0 (sym (first_same e)))
 changes-cut ((n, None) ∷ xs) [] s ((first, words) ∷ t) hs ks p q e = absurd (q.1 (sym (first_same e)))
-changes-cut ((n, Some d) ∷ xs) ((m, None) ∷ ys) s t hs ks p q e = absurd (other_byte (codes "+") (codes "-") (λ f. numbers_test 43 45 f) (first_same e))
-changes-cut ((n, None) ∷ xs) ((m, Some d) ∷ ys) s t hs ks p q e = absurd (other_byte (codes "-") (codes "+") (λ f. numbers_test 45 43 f) (first_same e))
+changes-cut ((n, Some d) ∷ xs) ((m, None) ∷ ys) s t hs ks p q e =
+    absurd (other_byte (codes "+") (codes "-") (λ f. numbers_test 43 45 f) (first_same e))
+changes-cut ((n, None) ∷ xs) ((m, Some d) ∷ ys) s t hs ks p q e =
+    absurd (other_byte (codes "-") (codes "+") (λ f. numbers_test 45 43 f) (first_same e))
 changes-cut ((n, None) ∷ xs) ((m, None) ∷ ys) s t hs ks p q e =
     let name : n ≡ m = shown-once n m hs.0 ks.0 (ap (λ lines. word_at 1 (line_at 0 lines)) e) in
     let rest = changes-cut xs ys s t hs.1 ks.1 p q (ap (drop 1) e) in
@@ -149,22 +164,28 @@ changes-cut ((n, Some d) ∷ xs) ((m, Some f) ∷ ys) s t hs ks p q e =
     let rest = changes-cut xs ys s t hs.1 ks.1 p q metas.1 in
     (ap₂ (λ change changes. change ∷ changes) (same_key n m d f name value (map.same_entries_map d.meta f.meta metas.0)) rest.0, rest.1)
 
-all_at : {A : Type 0} (P : A → Type 0) (xs : List A) (i : ℕ) (x : A) → AllByRecursion P xs → slice_get xs i ≡ Some x → P x
+all_at : {A : Type 0} (P : A → Type 0) (xs : List A) (i : ℕ) (x : A) → AllByRecursion P xs → slice_get xs i ≡ Some x
+    → P x
 all_at P [] zero x all there = absurd cc
 all_at P [] (suc i) x all there = absurd cc
 all_at P (y ∷ xs) zero x all there = subst P (some_is y x there) all.0
 all_at P (y ∷ xs) (suc i) x all there = all_at P xs i x all.1 there
 
-point_there : (mounts : List Mount) (i : ℕ) (mount : Mount) (touched : List ℕ) → slice_get mounts i ≡ Some mount → points_of mounts (i ∷ touched) ≡ mount.at ∷ points_of mounts touched
-point_there mounts i mount touched there = ap (λ found. cons_option (option_map (λ m. m.at) found) (points_of mounts touched)) there
+point_there : (mounts : List Mount) (i : ℕ) (mount : Mount) (touched : List ℕ) → slice_get mounts i ≡ Some mount
+    → points_of mounts (i ∷ touched) ≡ mount.at ∷ points_of mounts touched
+point_there mounts i mount touched there =
+    ap (λ found. cons_option (option_map (λ m. m.at) found) (points_of mounts touched)) there
 
-names_of_points : (mounts : List Mount) (touched : List ℕ) → AllByRecursion (λ m. IsName m.at) mounts → AllByRecursion (λ mount. mount < length mounts) touched → AllByRecursion IsName (points_of mounts touched)
+names_of_points : (mounts : List Mount) (touched : List ℕ) → AllByRecursion (λ m. IsName m.at) mounts
+    → AllByRecursion (λ mount. mount < length mounts) touched → AllByRecursion IsName (points_of mounts touched)
 names_of_points mounts [] names within = tt
 names_of_points mounts (i ∷ touched) names within =
     let found = there_is mounts i within.0 in
     subst (λ points. AllByRecursion IsName points) (sym (point_there mounts i found.0 touched found.1)) (all_at (λ m. IsName m.at) mounts i found.0 names found.1, names_of_points mounts touched names within.1)
 
-touched-once : (mounts : List Mount) (ts us : List ℕ) → AreDistinct (over (λ mount. mount.at) mounts) → AllByRecursion (λ mount. mount < length mounts) ts → AllByRecursion (λ mount. mount < length mounts) us → points_of mounts ts ≡ points_of mounts us → ts ≡ us
+touched-once : (mounts : List Mount) (ts us : List ℕ) → AreDistinct (over (λ mount. mount.at) mounts)
+    → AllByRecursion (λ mount. mount < length mounts) ts → AllByRecursion (λ mount. mount < length mounts) us
+    → points_of mounts ts ≡ points_of mounts us → ts ≡ us
 touched-once mounts [] [] apart hs ks e = refl
 touched-once mounts [] (u ∷ us) apart hs ks e =
     let found = there_is mounts u ks.0 in let there = e ∙ point_there mounts u found.0 us found.1 in absurd cc
@@ -179,13 +200,16 @@ touched-once mounts (t ∷ ts) (u ∷ us) apart hs ks e =
     let same : t ≡ u = apart t u other.0.at at (slice_get-map (λ mount. mount.at) mounts u ∙ ap (option_map (λ mount. mount.at)) other.1) in
     ap₂ (λ x xs. x ∷ xs) same (touched-once mounts ts us apart hs.1 ks.1 cc)
 
-number_at : (sessions : List ℕ) (i : ℕ) → AllByRecursion IsNumber sessions → i < length sessions → IsNumber (slice_index sessions i)
+number_at : (sessions : List ℕ) (i : ℕ) → AllByRecursion IsNumber sessions → i < length sessions
+    → IsNumber (slice_index sessions i)
 number_at sessions i numbers within =
     let found = there_is sessions i within in
     subst IsNumber (sym (get_or_from_slice_get sessions i found.0 0 found.1)) (all_at IsNumber sessions i found.0 numbers found.1)
 
 -- which handle it was, from the number of its session
-handle-once : (sessions : List ℕ) (h k : ℕ) → AreDistinct sessions → AllByRecursion IsNumber sessions → 1 ≤ h → h ≤ length sessions → 1 ≤ k → k ≤ length sessions → decimal (session_of sessions h) ≡ decimal (session_of sessions k) → h ≡ k
+handle-once : (sessions : List ℕ) (h k : ℕ) → AreDistinct sessions → AllByRecursion IsNumber sessions → 1 ≤ h
+    → h ≤ length sessions → 1 ≤ k → k ≤ length sessions
+    → decimal (session_of sessions h) ≡ decimal (session_of sessions k) → h ≡ k
 handle-once sessions h k apart numbers h_some h_within k_some k_within e =
     let one = there_is sessions (h - 1) (omega arith) in
     let other = there_is sessions (k - 1) (omega arith) in
@@ -194,7 +218,8 @@ handle-once sessions h k apart numbers h_some h_within k_some k_within e =
     let places : h - 1 ≡ k - 1 = apart (h - 1) (k - 1) other.0 (one.1 ∙ ap Some same) other.1 in
     omega arith
 
-no_change : (mounts : List Mount) (sessions : List ℕ) (number : ℕ) (commits : List Commit) → NoChange (words_of_commits mounts sessions number commits ++ (codes "end", []) ∷ [])
+no_change : (mounts : List Mount) (sessions : List ℕ) (number : ℕ) (commits : List Commit)
+    → NoChange (words_of_commits mounts sessions number commits ++ (codes "end", []) ∷ [])
 no_change mounts sessions number [] =
     (other_byte (codes "end") (codes "+") (λ e. numbers_test 101 43 e), other_byte (codes "end") (codes "-") (λ e. numbers_test 101 45 e), other_byte (codes "end") (codes ".") (λ e. numbers_test 101 46 e))
 no_change mounts sessions number (commit ∷ commits) =
@@ -203,11 +228,17 @@ no_change mounts sessions number (commit ∷ commits) =
 same_commit : (c d : Commit) → c.handle ≡ d.handle → c.touched ≡ d.touched → c.changes ≡ d.changes → c ≡ d
 same_commit c d handle touched changes = λ i. record { handle = handle i; touched = touched i; changes = changes i }
 
-pub commits-once : (mounts : List Mount) (sessions : List ℕ) → AreNamed mounts sessions → (number : ℕ) (cs ds : List Commit) → AllByRecursion (IsCommitOf mounts sessions) cs → AllByRecursion (IsCommitOf mounts sessions) ds
-    → words_of_commits mounts sessions number cs ++ (codes "end", []) ∷ [] ≡ words_of_commits mounts sessions number ds ++ (codes "end", []) ∷ [] → cs ≡ ds
+pub commits-once : (mounts : List Mount) (sessions : List ℕ) → AreNamed mounts sessions
+    → (number : ℕ) (cs ds : List Commit) → AllByRecursion (IsCommitOf mounts sessions) cs
+    → AllByRecursion (IsCommitOf mounts sessions) ds
+    → words_of_commits mounts sessions number cs ++ (codes "end", []) ∷ []
+    ≡ words_of_commits mounts sessions number ds ++ (codes "end", []) ∷ []
+    → cs ≡ ds
 commits-once mounts sessions named number [] [] hs ks e = refl
-commits-once mounts sessions named number [] (d ∷ ds) hs ks e = absurd (other_byte (codes "end") (codes "commit") (λ f. numbers_test 101 99 f) (first_same e))
-commits-once mounts sessions named number (c ∷ cs) [] hs ks e = absurd (other_byte (codes "commit") (codes "end") (λ f. numbers_test 99 101 f) (first_same e))
+commits-once mounts sessions named number [] (d ∷ ds) hs ks e =
+    absurd (other_byte (codes "end") (codes "commit") (λ f. numbers_test 101 99 f) (first_same e))
+commits-once mounts sessions named number (c ∷ cs) [] hs ks e =
+    absurd (other_byte (codes "commit") (codes "end") (λ f. numbers_test 99 101 f) (first_same e))
 commits-once mounts sessions named number (c ∷ cs) (d ∷ ds) hs ks e =
     let last = (codes "end", []) ∷ [] in
     let handle = handle-once sessions c.handle d.handle named.apart named.numbers hs.0.some hs.0.by ks.0.some ks.0.by (ap (λ lines. word_at 3 (line_at 0 lines)) e) in

@@ -27,7 +27,8 @@ use Rattle.store_verdict.specs.declared.faults.PrepareFault.{PrepareFault}
 use Rattle.store_verdict.specs.declared.faults.PrepareFault.TheVariants as preparing
 use Rattle.watch_feed.specs.declared.news.Changed.{Changed}
 
-get-same : (a b : GetFault) → IsGetFault a → IsGetFault b → words_of_get a ≡ words_of_get b → tag_of (words_of_get a) ≡ tag_of (words_of_get b) → a ≡ b
+get-same : (a b : GetFault) → IsGetFault a → IsGetFault b → words_of_get a ≡ words_of_get b
+    → tag_of (words_of_get a) ≡ tag_of (words_of_get b) → a ≡ b
 get-same (getting.BadFile mount number) (getting.BadFile mount' number') h k e _ =
     let same_mount = shown-once mount mount' h.0 k.0 (ap (word_at 3) e) in
     let same_number = decimal_injective number number' h.1 k.1 (ap (word_at 4) e) in
@@ -46,7 +47,8 @@ get-same a b _ _ _ same = absurd (numbers_test (tag_of (words_of_get a)) (tag_of
 get-once : (a b : GetFault) → IsGetFault a → IsGetFault b → words_of_get a ≡ words_of_get b → a ≡ b
 get-once a b h k e = get-same a b h k e (ap tag_of e)
 
-table-same : (a b : TableFault) → IsTableFault a → IsTableFault b → words_of_table a ≡ words_of_table b → tag_of (words_of_table a) ≡ tag_of (words_of_table b) → a ≡ b
+table-same : (a b : TableFault) → IsTableFault a → IsTableFault b → words_of_table a ≡ words_of_table b
+    → tag_of (words_of_table a) ≡ tag_of (words_of_table b) → a ≡ b
 table-same (table.BadMountpoint entry) (table.BadMountpoint entry') h k e _ =
     let same_entry = quoted-once entry entry' (ap (word_at 4) e) in
     λ i. table.BadMountpoint (same_entry i)
@@ -80,7 +82,8 @@ table-same a b _ _ _ same = absurd (numbers_test (tag_of (words_of_table a)) (ta
 table-once : (a b : TableFault) → IsTableFault a → IsTableFault b → words_of_table a ≡ words_of_table b → a ≡ b
 table-once a b h k e = table-same a b h k e (ap tag_of e)
 
-commit-same : (a b : CommitFault) → IsCommitFault a → IsCommitFault b → words_of_commit a ≡ words_of_commit b → tag_of (words_of_commit a) ≡ tag_of (words_of_commit b) → a ≡ b
+commit-same : (a b : CommitFault) → IsCommitFault a → IsCommitFault b → words_of_commit a ≡ words_of_commit b
+    → tag_of (words_of_commit a) ≡ tag_of (words_of_commit b) → a ≡ b
 commit-same (committing.Conflict mount by front) (committing.Conflict mount' by' front') h k e _ =
     let same_mount = shown-once mount mount' h.0 k.0 (ap (word_at 1) e) in
     let same_by = decimal_injective by by' h.1 k.1 (ap (word_at 3) e) in
@@ -114,7 +117,8 @@ commit-same a b _ _ _ same = absurd (numbers_test (tag_of (words_of_commit a)) (
 commit-once : (a b : CommitFault) → IsCommitFault a → IsCommitFault b → words_of_commit a ≡ words_of_commit b → a ≡ b
 commit-once a b h k e = commit-same a b h k e (ap tag_of e)
 
-done-same : (a b : Done) → IsDone a → IsDone b → words_of_done a ≡ words_of_done b → tag_of (words_of_done a) ≡ tag_of (words_of_done b) → a ≡ b
+done-same : (a b : Done) → IsDone a → IsDone b → words_of_done a ≡ words_of_done b
+    → tag_of (words_of_done a) ≡ tag_of (words_of_done b) → a ≡ b
 done-same (Committed number aside) (Committed number' aside') h k e _ =
     let same_number = decimal_injective number number' h.0 k.0 (ap (word_at 1) e) in
     let same_aside = decimal_injective aside aside' h.1 k.1 (ap (word_at 3) e) in
@@ -129,7 +133,8 @@ done-once : (a b : Done) → IsDone a → IsDone b → words_of_done a ≡ words
 done-once a b h k e = done-same a b h k e (ap tag_of e)
 
 -- the tags of mount tables are beyond those of other refusals
-table_large : (fault : TableFault) → T (nat_eq 0 (tag_of (words_of_table fault)) || nat_le 20 (tag_of (words_of_table fault)))
+table_large : (fault : TableFault)
+    → T (nat_eq 0 (tag_of (words_of_table fault)) || nat_le 20 (tag_of (words_of_table fault)))
 table_large (table.BadMountpoint entry) = tt
 table_large (table.NoPath entry) = tt
 table_large (table.BadPath entry) = tt
@@ -144,11 +149,14 @@ table_large table.Memory = tt
 table_test : (fault : TableFault) (n : ℕ) → tag_of (words_of_table fault) ≡ n → T (nat_eq 0 n || nat_le 20 n)
 table_test fault n same = subst (λ m. T (nat_eq 0 m || nat_le 20 m)) same (table_large fault)
 
-table_or_memory : (fault : TableFault) → tag_of (words_of_table fault) ≡ 0 → told_last (SetRefused (Prepare (preparing.BadTable fault))) ≡ Memory
+table_or_memory : (fault : TableFault) → tag_of (words_of_table fault) ≡ 0
+    → told_last (SetRefused (Prepare (preparing.BadTable fault))) ≡ Memory
 table_or_memory table.Memory _ = refl
 table_or_memory fault same = absurd (numbers_test (tag_of (words_of_table fault)) 0 same)
 
-prepare-same : (a b : PrepareFault) → IsPrepareFault a → IsPrepareFault b → words_of_prepare a ≡ words_of_prepare b → tag_of (words_of_prepare a) ≡ tag_of (words_of_prepare b) → told_last (SetRefused (Prepare a)) ≡ told_last (SetRefused (Prepare b))
+prepare-same : (a b : PrepareFault) → IsPrepareFault a → IsPrepareFault b → words_of_prepare a ≡ words_of_prepare b
+    → tag_of (words_of_prepare a) ≡ tag_of (words_of_prepare b)
+    → told_last (SetRefused (Prepare a)) ≡ told_last (SetRefused (Prepare b))
 prepare-same (preparing.NotFetched mount) (preparing.NotFetched mount') h k e _ =
     let same_mount = shown-once mount mount' h k (ap (word_at 3) e) in
     λ i. SetRefused (Prepare (preparing.NotFetched (same_mount i)))
@@ -164,30 +172,36 @@ prepare-same (preparing.FileTooLarge mount bytes) (preparing.FileTooLarge mount'
     let same_mount = shown-once mount mount' h.0 k.0 (ap (word_at 3) e) in
     let same_bytes = decimal_injective bytes bytes' h.1 k.1 (ap (word_at 4) e) in
     λ i. SetRefused (Prepare (preparing.FileTooLarge (same_mount i) (same_bytes i)))
-prepare-same (preparing.BadTable fault) (preparing.BadTable fault') h k e _ = ap (λ f. told_last (SetRefused (Prepare (preparing.BadTable f)))) (table-once fault fault' h k e)
+prepare-same (preparing.BadTable fault) (preparing.BadTable fault') h k e _ =
+    ap (λ f. told_last (SetRefused (Prepare (preparing.BadTable f)))) (table-once fault fault' h k e)
 prepare-same (preparing.BadTable fault) preparing.Memory _ _ _ same = table_or_memory fault same
 prepare-same (preparing.BadTable fault) b _ _ _ same = absurd (table_test fault (tag_of (words_of_prepare b)) same)
 prepare-same preparing.Memory (preparing.BadTable fault) _ _ _ same = sym (table_or_memory fault (sym same))
-prepare-same a (preparing.BadTable fault) _ _ _ same = absurd (table_test fault (tag_of (words_of_prepare a)) (sym same))
+prepare-same a (preparing.BadTable fault) _ _ _ same =
+    absurd (table_test fault (tag_of (words_of_prepare a)) (sym same))
 prepare-same preparing.Memory preparing.Memory h k e _ = refl
 prepare-same a b _ _ _ same = absurd (numbers_test (tag_of (words_of_prepare a)) (tag_of (words_of_prepare b)) same)
 
-prepare-once : (a b : PrepareFault) → IsPrepareFault a → IsPrepareFault b → words_of_prepare a ≡ words_of_prepare b → told_last (SetRefused (Prepare a)) ≡ told_last (SetRefused (Prepare b))
+prepare-once : (a b : PrepareFault) → IsPrepareFault a → IsPrepareFault b → words_of_prepare a ≡ words_of_prepare b
+    → told_last (SetRefused (Prepare a)) ≡ told_last (SetRefused (Prepare b))
 prepare-once a b h k e = prepare-same a b h k e (ap tag_of e)
 
 -- refusals of different kinds are told alike only for want of memory
-get_or_prepare : (a : GetFault) (b : PrepareFault) → tag_of (words_of_get a) ≡ tag_of (words_of_prepare b) → told_last (GetRefused a) ≡ told_last (SetRefused (Prepare b))
+get_or_prepare : (a : GetFault) (b : PrepareFault) → tag_of (words_of_get a) ≡ tag_of (words_of_prepare b)
+    → told_last (GetRefused a) ≡ told_last (SetRefused (Prepare b))
 get_or_prepare getting.Memory preparing.Memory _ = refl
 get_or_prepare getting.Memory (preparing.BadTable fault) same = sym (table_or_memory fault (sym same))
 get_or_prepare a (preparing.BadTable fault) same = absurd (table_test fault (tag_of (words_of_get a)) (sym same))
 get_or_prepare a b same = absurd (numbers_test (tag_of (words_of_get a)) (tag_of (words_of_prepare b)) same)
 
-get_or_commit : (a : GetFault) (b : CommitFault) → tag_of (words_of_get a) ≡ tag_of (words_of_commit b) → told_last (GetRefused a) ≡ told_last (SetRefused (Commit b))
+get_or_commit : (a : GetFault) (b : CommitFault) → tag_of (words_of_get a) ≡ tag_of (words_of_commit b)
+    → told_last (GetRefused a) ≡ told_last (SetRefused (Commit b))
 get_or_commit getting.Memory committing.Memory _ = refl
 get_or_commit a committing.Memory same = absurd (numbers_test (tag_of (words_of_get a)) 0 same)
 get_or_commit a b same = absurd (numbers_test (tag_of (words_of_get a)) (tag_of (words_of_commit b)) same)
 
-prepare_or_commit : (a : PrepareFault) (b : CommitFault) → tag_of (words_of_prepare a) ≡ tag_of (words_of_commit b) → told_last (SetRefused (Prepare a)) ≡ told_last (SetRefused (Commit b))
+prepare_or_commit : (a : PrepareFault) (b : CommitFault) → tag_of (words_of_prepare a) ≡ tag_of (words_of_commit b)
+    → told_last (SetRefused (Prepare a)) ≡ told_last (SetRefused (Commit b))
 prepare_or_commit preparing.Memory committing.Memory _ = refl
 prepare_or_commit (preparing.BadTable fault) committing.Memory same = table_or_memory fault same
 prepare_or_commit a committing.Memory same = absurd (numbers_test (tag_of (words_of_prepare a)) 0 same)
@@ -267,7 +281,8 @@ bare-told (UndoRefused (undoing.Set fault)) = refl
 bare-told (UndoRefused undoing.Memory) = refl
 bare-told reply = refl
 
-of_kind : (a b : Reply) → is_bare a ≡ true → is_bare b ≡ true → IsReply a → IsReply b → words_of a ≡ words_of b → changes_of a ≡ changes_of b → kind a ≡ kind b → told_last a ≡ told_last b
+of_kind : (a b : Reply) → is_bare a ≡ true → is_bare b ≡ true → IsReply a → IsReply b → words_of a ≡ words_of b
+    → changes_of a ≡ changes_of b → kind a ≡ kind b → told_last a ≡ told_last b
 of_kind (Got front count) (Got front' count') plain plain' h k e _ _ =
     let same_front = decimal_injective front front' h.0 k.0 (ap (word_at 1) e) in
     let same_count = decimal_injective count count' h.1 k.1 (ap (word_at 2) e) in
@@ -276,19 +291,28 @@ of_kind (LookFound name value) (LookFound name' value') plain plain' h k e _ _ =
     let same_name = shown-once name name' h k (ap (word_at 1) e) in
     let same_value = quoted-once value value' (ap (word_at 2) e) in
     λ i. LookFound (same_name i) (same_value i)
-of_kind (GetRefused fault) (GetRefused fault') plain plain' h k e _ _ = ap (λ f. told_last (GetRefused f)) (get-once fault fault' h k e)
-of_kind (GetRefused fault) (SetRefused (Prepare other)) plain plain' h k e _ _ = get_or_prepare fault other (ap tag_of e)
+of_kind (GetRefused fault) (GetRefused fault') plain plain' h k e _ _ =
+    ap (λ f. told_last (GetRefused f)) (get-once fault fault' h k e)
+of_kind (GetRefused fault) (SetRefused (Prepare other)) plain plain' h k e _ _ =
+    get_or_prepare fault other (ap tag_of e)
 of_kind (GetRefused fault) (SetRefused (Commit other)) plain plain' h k e _ _ = get_or_commit fault other (ap tag_of e)
 of_kind (GetRefused fault) Memory plain plain' h k e _ _ = get_or_memory fault (ap tag_of e)
-of_kind (SetRefused (Prepare fault)) (GetRefused other) plain plain' h k e _ _ = sym (get_or_prepare other fault (ap tag_of (sym e)))
-of_kind (SetRefused (Prepare fault)) (SetRefused (Prepare fault')) plain plain' h k e _ _ = prepare-once fault fault' h k e
-of_kind (SetRefused (Prepare fault)) (SetRefused (Commit other)) plain plain' h k e _ _ = prepare_or_commit fault other (ap tag_of e)
+of_kind (SetRefused (Prepare fault)) (GetRefused other) plain plain' h k e _ _ =
+    sym (get_or_prepare other fault (ap tag_of (sym e)))
+of_kind (SetRefused (Prepare fault)) (SetRefused (Prepare fault')) plain plain' h k e _ _ =
+    prepare-once fault fault' h k e
+of_kind (SetRefused (Prepare fault)) (SetRefused (Commit other)) plain plain' h k e _ _ =
+    prepare_or_commit fault other (ap tag_of e)
 of_kind (SetRefused (Prepare fault)) Memory plain plain' h k e _ _ = prepare_or_memory fault (ap tag_of e)
-of_kind (SetRefused (Commit fault)) (GetRefused other) plain plain' h k e _ _ = sym (get_or_commit other fault (ap tag_of (sym e)))
-of_kind (SetRefused (Commit fault)) (SetRefused (Prepare other)) plain plain' h k e _ _ = sym (prepare_or_commit other fault (ap tag_of (sym e)))
-of_kind (SetRefused (Commit fault)) (SetRefused (Commit fault')) plain plain' h k e _ _ = ap (λ f. told_last (SetRefused (Commit f))) (commit-once fault fault' h k e)
+of_kind (SetRefused (Commit fault)) (GetRefused other) plain plain' h k e _ _ =
+    sym (get_or_commit other fault (ap tag_of (sym e)))
+of_kind (SetRefused (Commit fault)) (SetRefused (Prepare other)) plain plain' h k e _ _ =
+    sym (prepare_or_commit other fault (ap tag_of (sym e)))
+of_kind (SetRefused (Commit fault)) (SetRefused (Commit fault')) plain plain' h k e _ _ =
+    ap (λ f. told_last (SetRefused (Commit f))) (commit-once fault fault' h k e)
 of_kind (SetRefused (Commit fault)) Memory plain plain' h k e _ _ = commit_or_memory fault (ap tag_of e)
-of_kind (SetDone done) (SetDone done') plain plain' h k e _ _ = ap (λ d. told_last (SetDone d)) (done-once done done' h k e)
+of_kind (SetDone done) (SetDone done') plain plain' h k e _ _ =
+    ap (λ d. told_last (SetDone d)) (done-once done done' h k e)
 of_kind Memory (GetRefused fault) plain plain' h k e _ _ = sym (get_or_memory fault (ap tag_of (sym e)))
 of_kind Memory (SetRefused (Prepare fault)) plain plain' h k e _ _ = sym (prepare_or_memory fault (ap tag_of (sym e)))
 of_kind Memory (SetRefused (Commit fault)) plain plain' h k e _ _ = sym (commit_or_memory fault (ap tag_of (sym e)))
@@ -296,7 +320,8 @@ of_kind Quiet Quiet plain plain' h k e _ _ = refl
 of_kind LookNone LookNone plain plain' h k e _ _ = refl
 of_kind Memory Memory plain plain' h k e _ _ = refl
 of_kind NoWatch NoWatch plain plain' h k e _ _ = refl
-of_kind (Watching front) (Watching front') plain plain' h k e _ _ = ap (λ f. Watching f) (decimal_injective front front' h k (ap (word_at 1) e))
+of_kind (Watching front) (Watching front') plain plain' h k e _ _ =
+    ap (λ f. Watching f) (decimal_injective front front' h k (ap (word_at 1) e))
 of_kind (News news) (News other) plain plain' h k e changes _ =
     let same_front = decimal_injective news.front other.front h.0 k.0 (ap (word_at 1) e) in
     let same_missed = decimal_injective news.missed other.missed h.1 k.1 (ap (word_at 3) e) in
@@ -310,8 +335,10 @@ of_kind (UndoRefused (undoing.Overtaken name by front)) (UndoRefused (undoing.Ov
     let same_by = decimal_injective by by' h.1 k.1 (ap (word_at 5) e) in
     let same_front = decimal_injective front front' h.2 k.2 (ap (word_at 7) e) in
     λ i. UndoRefused (undoing.Overtaken (same_name i) (same_by i) (same_front i))
-of_kind (UndoRefused (undoing.NoCommit number front)) (UndoRefused (undoing.Overtaken name by front')) plain plain' h k e _ _ = absurd (numbers_test 17 18 (ap tag_of e))
-of_kind (UndoRefused (undoing.Overtaken name by front)) (UndoRefused (undoing.NoCommit number front')) plain plain' h k e _ _ = absurd (numbers_test 18 17 (ap tag_of e))
+of_kind (UndoRefused (undoing.NoCommit number front)) (UndoRefused (undoing.Overtaken name by front')) plain plain' h k e _ _ =
+    absurd (numbers_test 17 18 (ap tag_of e))
+of_kind (UndoRefused (undoing.Overtaken name by front)) (UndoRefused (undoing.NoCommit number front')) plain plain' h k e _ _ =
+    absurd (numbers_test 18 17 (ap tag_of e))
 of_kind (UndoRefused (undoing.Get fault)) b plain plain' h k e _ _ = absurd cc
 of_kind (UndoRefused (undoing.Set fault)) b plain plain' h k e _ _ = absurd cc
 of_kind (UndoRefused undoing.Memory) b plain plain' h k e _ _ = absurd cc
@@ -326,7 +353,8 @@ of_kind a (Merged merging) plain plain' h k e _ _ = absurd cc
 of_kind a (MergeRefused fault) plain plain' h k e _ _ = absurd cc
 of_kind a b _ _ _ _ _ _ same = absurd (numbers_test (kind a) (kind b) same)
 
-plain-once : (a b : Reply) → is_merge a ≡ false → is_merge b ≡ false → IsReply a → IsReply b → words_of a ≡ words_of b → changes_of a ≡ changes_of b → told_last a ≡ told_last b
+plain-once : (a b : Reply) → is_merge a ≡ false → is_merge b ≡ false → IsReply a → IsReply b → words_of a ≡ words_of b
+    → changes_of a ≡ changes_of b → told_last a ≡ told_last b
 plain-once a b plain plain' h k e changes =
     let words : words_of (bare a) ≡ words_of (bare b) = bare-words a ∙ (e ∙ sym (bare-words b)) in
     let kinds : kind (bare a) ≡ kind (bare b) = sym (reply-kind (bare a)) ∙ (ap kind_of words ∙ reply-kind (bare b)) in
@@ -351,18 +379,22 @@ no_merge (MergeRefused fault) none same = absurd cc
 no_merge (UndoRefused fault) none same = undo_apart fault same
 no_merge b none same = absurd (numbers_test 6 (kind b) same)
 
-end-once : (end : MergeEnd) (b : Reply) → is_merge b ≡ false → IsEnd end → IsReply b → words_of_end end ≡ words_of b → [] ≡ changes_of b → told_end end ≡ told_last b
+end-once : (end : MergeEnd) (b : Reply) → is_merge b ≡ false → IsEnd end → IsReply b → words_of_end end ≡ words_of b
+    → [] ≡ changes_of b → told_end end ≡ told_last b
 end-once (merge_end.MergeConflicts names) b none h k e bare = absurd (no_merge b none (ap kind_of e ∙ reply-kind b))
-end-once (merge_end.TriesSpent mount by front) b none h k e bare = absurd (no_merge b none (ap kind_of e ∙ reply-kind b))
+end-once (merge_end.TriesSpent mount by front) b none h k e bare =
+    absurd (no_merge b none (ap kind_of e ∙ reply-kind b))
 end-once (merge_end.Set fault) b none h k e bare = plain-once (SetRefused fault) b refl none h k e bare
 end-once merge_end.Memory b none h k e bare = plain-once Memory b refl none h k e bare
 
-ends-same : (a b : MergeEnd) → IsEnd a → IsEnd b → words_of_end a ≡ words_of_end b → tag_of (words_of_end a) ≡ tag_of (words_of_end b) → told_end a ≡ told_end b
+ends-same : (a b : MergeEnd) → IsEnd a → IsEnd b → words_of_end a ≡ words_of_end b
+    → tag_of (words_of_end a) ≡ tag_of (words_of_end b) → told_end a ≡ told_end b
 ends-same (merge_end.Set fault) b h k e _ = sym (end-once b (SetRefused fault) refl k h (sym e) refl)
 ends-same merge_end.Memory b h k e _ = sym (end-once b Memory refl k h (sym e) refl)
 ends-same a (merge_end.Set fault) h k e _ = end-once a (SetRefused fault) refl h k e refl
 ends-same a merge_end.Memory h k e _ = end-once a Memory refl h k e refl
-ends-same (merge_end.MergeConflicts names) (merge_end.MergeConflicts names') h k e _ = ap (λ all. told_end (merge_end.MergeConflicts all)) (names-once names names' h k (ap (λ line. line.1) e))
+ends-same (merge_end.MergeConflicts names) (merge_end.MergeConflicts names') h k e _ =
+    ap (λ all. told_end (merge_end.MergeConflicts all)) (names-once names names' h k (ap (λ line. line.1) e))
 ends-same (merge_end.TriesSpent mount by front) (merge_end.TriesSpent mount' by' front') h k e _ =
     let same_mount = shown-once mount mount' h.0 k.0 (ap (word_at 1) e) in
     let same_by = decimal_injective by by' h.1 k.1 (ap (word_at 3) e) in
@@ -373,9 +405,12 @@ ends-same a b _ _ _ same = absurd (numbers_test (tag_of (words_of_end a)) (tag_o
 ends-once : (a b : MergeEnd) → IsEnd a → IsEnd b → words_of_end a ≡ words_of_end b → told_end a ≡ told_end b
 ends-once a b h k e = ends-same a b h k e (ap tag_of e)
 
-pub reply-once : (a b : Reply) → IsReply a → IsReply b → words_of a ≡ words_of b → changes_of a ≡ changes_of b → told_last a ≡ told_last b
-reply-once (Merged one) (Merged other) h k e _ = plain-once (SetDone one.done) (SetDone other.done) refl refl h.1 k.1 e refl
-reply-once (Merged one) (MergeRefused fault) h k e _ = sym (end-once fault.end (SetDone one.done) refl k.1 h.1 (sym e) refl)
+pub reply-once : (a b : Reply) → IsReply a → IsReply b → words_of a ≡ words_of b → changes_of a ≡ changes_of b
+    → told_last a ≡ told_last b
+reply-once (Merged one) (Merged other) h k e _ =
+    plain-once (SetDone one.done) (SetDone other.done) refl refl h.1 k.1 e refl
+reply-once (Merged one) (MergeRefused fault) h k e _ =
+    sym (end-once fault.end (SetDone one.done) refl k.1 h.1 (sym e) refl)
 reply-once (Merged one) b h k e bare = plain-once (SetDone one.done) b refl refl h.1 k e bare
 reply-once (MergeRefused fault) (Merged other) h k e _ = end-once fault.end (SetDone other.done) refl h.1 k.1 e refl
 reply-once (MergeRefused fault) (MergeRefused other) h k e _ = ends-once fault.end other.end h.1 k.1 e

@@ -21,26 +21,32 @@ pub ended-append : (lines others : List (List ℕ)) → ended (lines ++ others) 
 ended-append lines others = flat_map-append (λ line. line ++ 10 ∷ []) lines others
 
 -- lines behind those so far
-pub pushed-on : (so_far one all : List (List ℕ)) (start before after : List ℕ) → all ≡ so_far ++ one → before ≡ start ++ ended so_far → after ≡ before ++ ended one → after ≡ start ++ ended all
+pub pushed-on : (so_far one all : List (List ℕ)) (start before after : List ℕ) → all ≡ so_far ++ one
+    → before ≡ start ++ ended so_far → after ≡ before ++ ended one → after ≡ start ++ ended all
 pushed-on so_far one all start before after all_is was pushed =
     pushed
     ∙ (ap (λ text. text ++ ended one) was
     ∙ (append_assoc start (ended so_far) (ended one) ∙ ap (λ text. start ++ text) (sym (ap ended all_is ∙ ended-append so_far one))))
 
 -- the lines of one item more
-pub pushed-more : {A : Type 0} (lines_of : A → List (List ℕ)) (items : List A) (i : ℕ) (item : A) (start before after : List ℕ) → Some item ≡ slice_get items i
-    → before ≡ start ++ ended (flat_map lines_of (take i items)) → after ≡ before ++ ended (lines_of item) → after ≡ start ++ ended (flat_map lines_of (take (i + 1) items))
+pub pushed-more : {A : Type 0} (lines_of : A → List (List ℕ)) (items : List A) (i : ℕ) (item : A)
+    (start before after : List ℕ) → Some item ≡ slice_get items i
+    → before ≡ start ++ ended (flat_map lines_of (take i items)) → after ≡ before ++ ended (lines_of item)
+    → after ≡ start ++ ended (flat_map lines_of (take (i + 1) items))
 pushed-more lines_of items i item start before after there was pushed =
     pushed-on (flat_map lines_of (take i items)) (lines_of item) (flat_map lines_of (take (i + 1) items)) start before after (flat_map-more lines_of items i item there) was pushed
 
 -- the line of one item more
-pub pushed-line : {A : Type 0} (line_of : A → List ℕ) (items : List A) (i : ℕ) (item : A) (start before after : List ℕ) → Some item ≡ slice_get items i
-    → before ≡ start ++ ended (over line_of (take i items)) → after ≡ before ++ ended (line_of item ∷ []) → after ≡ start ++ ended (over line_of (take (i + 1) items))
+pub pushed-line : {A : Type 0} (line_of : A → List ℕ) (items : List A) (i : ℕ) (item : A) (start before after : List ℕ)
+    → Some item ≡ slice_get items i
+    → before ≡ start ++ ended (over line_of (take i items)) → after ≡ before ++ ended (line_of item ∷ [])
+    → after ≡ start ++ ended (over line_of (take (i + 1) items))
 pushed-line line_of items i item start before after there was pushed =
     pushed-on (over line_of (take i items)) (line_of item ∷ []) (over line_of (take (i + 1) items)) start before after (ap (over line_of) (take-next items i item there) ∙ map_push line_of (take i items) item) was pushed
 
 -- some lines, where they and others are still to come
-pub pushed-next : (lines others : List (List ℕ)) (before after all : List ℕ) → before ++ ended (lines ++ others) ≡ all → after ≡ before ++ ended lines → after ++ ended others ≡ all
+pub pushed-next : (lines others : List (List ℕ)) (before after all : List ℕ) → before ++ ended (lines ++ others) ≡ all
+    → after ≡ before ++ ended lines → after ++ ended others ≡ all
 pushed-next lines others before after all still pushed =
     ap (λ text. text ++ ended others) pushed
     ∙ (append_assoc before (ended lines) (ended others)
@@ -48,18 +54,23 @@ pushed-next lines others before after all still pushed =
 
 -- nothing is still to come
 pub pushed-all : (before all : List ℕ) (lines : List (List ℕ)) → before ++ ended lines ≡ all → lines ≡ [] → before ≡ all
-pushed-all before all lines still none = sym (append-nil before) ∙ (ap (λ rest. before ++ ended rest) (sym none) ∙ still)
+pushed-all before all lines still none =
+    sym (append-nil before) ∙ (ap (λ rest. before ++ ended rest) (sym none) ∙ still)
 
 -- what is to come of a list, an element first
 pub drop-next : {A : Type 0} (xs : List A) (i : ℕ) (x : A) → slice_get xs i ≡ Some x → drop i xs ≡ x ∷ drop (i + 1) xs
-drop-next xs i x there = drop_more xs i x (slice_get_within xs i x there) ∙ ap (λ y. y ∷ drop (i + 1) xs) (get_or_from_slice_get xs i x x there)
+drop-next xs i x there =
+    drop_more xs i x (slice_get_within xs i x there)
+    ∙ ap (λ y. y ∷ drop (i + 1) xs) (get_or_from_slice_get xs i x x there)
 
-pub flat_map-over : {A B C : Type 0} (f : B → List C) (g : A → B) (xs : List A) → flat_map f (over g xs) ≡ flat_map (λ x. f (g x)) xs
+pub flat_map-over : {A B C : Type 0} (f : B → List C) (g : A → B) (xs : List A)
+    → flat_map f (over g xs) ≡ flat_map (λ x. f (g x)) xs
 flat_map-over f g [] = refl
 flat_map-over f g (x ∷ xs) = ap (λ rest. f (g x) ++ rest) (flat_map-over f g xs)
 
 -- the mountpoint of one mount more
-pub points-more : (mounts : List Mount) (touched : List ℕ) (i : ℕ) → i < length touched → flat_map (λ point. 32 ∷ shown point) (points_of mounts (take (i + 1) touched))
+pub points-more : (mounts : List Mount) (touched : List ℕ) (i : ℕ) → i < length touched
+    → flat_map (λ point. 32 ∷ shown point) (points_of mounts (take (i + 1) touched))
     ≡ flat_map (λ point. 32 ∷ shown point) (points_of mounts (take i touched)) ++ flat_map (λ point. 32 ∷ shown point) (points_of mounts (get_or touched i 0 ∷ []))
 points-more mounts touched i within =
     let point_of = λ (number : ℕ). option_map (λ (mount : Mount). mount.at) (slice_get mounts number) in
@@ -67,7 +78,8 @@ points-more mounts touched i within =
     ∙ flat_map-append (λ point. 32 ∷ shown point) (points_of mounts (take i touched)) (points_of mounts (get_or touched i 0 ∷ []))
 
 -- what is to come of the commits, where one is found by its number
-pub commits-next : (commits : List Commit) (i : ℕ) (found : Option Commit) → found ≡ (if (i + 1) == 0 then None else slice_get commits (i + 1 - 1)) → slice_get commits i ≡ found
+pub commits-next : (commits : List Commit) (i : ℕ) (found : Option Commit)
+    → found ≡ (if (i + 1) == 0 then None else slice_get commits (i + 1 - 1)) → slice_get commits i ≡ found
 commits-next commits i found is =
     let place : i + 1 - 1 ≡ i = omega arith in
     let later : ((i + 1) == 0) ≡ false = ne_eqb (i + 1) 0 (λ e. omega arith) in

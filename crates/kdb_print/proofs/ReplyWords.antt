@@ -97,38 +97,60 @@ tag_of line =
     (if is_text (word_at 0 line) (codes "spent") then 16 else refusal_tag_of line)))))
 
 abbrev pub words_of_get : GetFault → Line
-words_of_get (getting.BadFile mount number) = (codes "refused", codes "C03100" ∷ codes "bad-file" ∷ shown mount ∷ decimal number ∷ [])
-words_of_get (getting.TooLong mount bytes) = (codes "refused", codes "C01100" ∷ codes "too-long" ∷ shown mount ∷ decimal bytes ∷ [])
-words_of_get (getting.TooHeavy mount weight) = (codes "refused", codes "C01100" ∷ codes "too-heavy" ∷ shown mount ∷ decimal weight ∷ [])
+words_of_get (getting.BadFile mount number) =
+    (codes "refused", codes "C03100" ∷ codes "bad-file" ∷ shown mount ∷ decimal number ∷ [])
+words_of_get (getting.TooLong mount bytes) =
+    (codes "refused", codes "C01100" ∷ codes "too-long" ∷ shown mount ∷ decimal bytes ∷ [])
+words_of_get (getting.TooHeavy mount weight) =
+    (codes "refused", codes "C01100" ∷ codes "too-heavy" ∷ shown mount ∷ decimal weight ∷ [])
 words_of_get getting.Memory = (codes "memory", [])
 
 abbrev pub words_of_table : TableFault → Line
-words_of_table (table.BadMountpoint entry) = (codes "refused", codes "C03200" ∷ codes "bad-table" ∷ codes "bad-mountpoint" ∷ quoted entry ∷ [])
-words_of_table (table.NoPath entry) = (codes "refused", codes "C03200" ∷ codes "bad-table" ∷ codes "no-path" ∷ quoted entry ∷ [])
-words_of_table (table.BadPath entry) = (codes "refused", codes "C03200" ∷ codes "bad-table" ∷ codes "bad-path" ∷ quoted entry ∷ [])
-words_of_table (table.UnknownPlugin entry) = (codes "refused", codes "C03200" ∷ codes "bad-table" ∷ codes "unknown-plugin" ∷ quoted entry ∷ [])
-words_of_table (table.FileTwice entry) = (codes "refused", codes "C03200" ∷ codes "bad-table" ∷ codes "file-twice" ∷ quoted entry ∷ [])
-words_of_table (table.BadConflicts entry) = (codes "refused", codes "C03200" ∷ codes "bad-table" ∷ codes "bad-conflicts" ∷ quoted entry ∷ [])
-words_of_table (table.TooMany count) = (codes "refused", codes "C03200" ∷ codes "bad-table" ∷ codes "too-many" ∷ decimal count ∷ [])
-words_of_table (table.AlreadyMounted entry) = (codes "refused", codes "C03200" ∷ codes "bad-table" ∷ codes "already-mounted" ∷ quoted entry ∷ [])
-words_of_table (table.NotMounted entry) = (codes "refused", codes "C03200" ∷ codes "bad-table" ∷ codes "not-mounted" ∷ quoted entry ∷ [])
+words_of_table (table.BadMountpoint entry) =
+    (codes "refused", codes "C03200" ∷ codes "bad-table" ∷ codes "bad-mountpoint" ∷ quoted entry ∷ [])
+words_of_table (table.NoPath entry) =
+    (codes "refused", codes "C03200" ∷ codes "bad-table" ∷ codes "no-path" ∷ quoted entry ∷ [])
+words_of_table (table.BadPath entry) =
+    (codes "refused", codes "C03200" ∷ codes "bad-table" ∷ codes "bad-path" ∷ quoted entry ∷ [])
+words_of_table (table.UnknownPlugin entry) =
+    (codes "refused", codes "C03200" ∷ codes "bad-table" ∷ codes "unknown-plugin" ∷ quoted entry ∷ [])
+words_of_table (table.FileTwice entry) =
+    (codes "refused", codes "C03200" ∷ codes "bad-table" ∷ codes "file-twice" ∷ quoted entry ∷ [])
+words_of_table (table.BadConflicts entry) =
+    (codes "refused", codes "C03200" ∷ codes "bad-table" ∷ codes "bad-conflicts" ∷ quoted entry ∷ [])
+words_of_table (table.TooMany count) =
+    (codes "refused", codes "C03200" ∷ codes "bad-table" ∷ codes "too-many" ∷ decimal count ∷ [])
+words_of_table (table.AlreadyMounted entry) =
+    (codes "refused", codes "C03200" ∷ codes "bad-table" ∷ codes "already-mounted" ∷ quoted entry ∷ [])
+words_of_table (table.NotMounted entry) =
+    (codes "refused", codes "C03200" ∷ codes "bad-table" ∷ codes "not-mounted" ∷ quoted entry ∷ [])
 words_of_table table.Memory = (codes "memory", [])
 
 abbrev pub words_of_prepare : PrepareFault → Line
-words_of_prepare (preparing.NotFetched mount) = (codes "refused", codes "C01320" ∷ codes "not-fetched" ∷ shown mount ∷ [])
-words_of_prepare (preparing.ValueTooLong key bytes) = (codes "refused", codes "C01100" ∷ codes "value-too-long" ∷ shown key ∷ decimal bytes ∷ [])
-words_of_prepare (preparing.NotStorable mount key) = (codes "refused", codes "C03200" ∷ codes "not-storable" ∷ shown mount ∷ shown key ∷ [])
-words_of_prepare (preparing.FileTooLarge mount bytes) = (codes "refused", codes "C01100" ∷ codes "file-too-large" ∷ shown mount ∷ decimal bytes ∷ [])
+words_of_prepare (preparing.NotFetched mount) =
+    (codes "refused", codes "C01320" ∷ codes "not-fetched" ∷ shown mount ∷ [])
+words_of_prepare (preparing.ValueTooLong key bytes) =
+    (codes "refused", codes "C01100" ∷ codes "value-too-long" ∷ shown key ∷ decimal bytes ∷ [])
+words_of_prepare (preparing.NotStorable mount key) =
+    (codes "refused", codes "C03200" ∷ codes "not-storable" ∷ shown mount ∷ shown key ∷ [])
+words_of_prepare (preparing.FileTooLarge mount bytes) =
+    (codes "refused", codes "C01100" ∷ codes "file-too-large" ∷ shown mount ∷ decimal bytes ∷ [])
 words_of_prepare (preparing.BadTable fault) = words_of_table fault
 words_of_prepare preparing.Memory = (codes "memory", [])
 
 abbrev pub words_of_commit : CommitFault → Line
-words_of_commit (committing.Conflict mount by front) = (codes "conflict", shown mount ∷ codes "by" ∷ decimal by ∷ codes "front" ∷ decimal front ∷ [])
-words_of_commit (committing.FileTooLarge mount bytes front) = (codes "refused", codes "C01100" ∷ codes "file-too-large" ∷ shown mount ∷ decimal bytes ∷ codes "front" ∷ decimal front ∷ [])
-words_of_commit (committing.Invalid violation front) = (codes "refused", codes "C03200" ∷ codes "invalid" ∷ shown violation.key ∷ codes "rule" ∷ decimal violation.rule ∷ codes "given" ∷ quoted violation.given ∷ codes "front" ∷ decimal front ∷ [])
-words_of_commit (committing.DatabaseFull weight front) = (codes "refused", codes "C01100" ∷ codes "database-full" ∷ decimal weight ∷ codes "front" ∷ decimal front ∷ [])
-words_of_commit (committing.HistoryFull weight front) = (codes "refused", codes "C01100" ∷ codes "history-full" ∷ decimal weight ∷ codes "front" ∷ decimal front ∷ [])
-words_of_commit (committing.DiskFault front) = (codes "refused", codes "C01100" ∷ codes "disk-fault" ∷ codes "front" ∷ decimal front ∷ [])
+words_of_commit (committing.Conflict mount by front) =
+    (codes "conflict", shown mount ∷ codes "by" ∷ decimal by ∷ codes "front" ∷ decimal front ∷ [])
+words_of_commit (committing.FileTooLarge mount bytes front) =
+    (codes "refused", codes "C01100" ∷ codes "file-too-large" ∷ shown mount ∷ decimal bytes ∷ codes "front" ∷ decimal front ∷ [])
+words_of_commit (committing.Invalid violation front) =
+    (codes "refused", codes "C03200" ∷ codes "invalid" ∷ shown violation.key ∷ codes "rule" ∷ decimal violation.rule ∷ codes "given" ∷ quoted violation.given ∷ codes "front" ∷ decimal front ∷ [])
+words_of_commit (committing.DatabaseFull weight front) =
+    (codes "refused", codes "C01100" ∷ codes "database-full" ∷ decimal weight ∷ codes "front" ∷ decimal front ∷ [])
+words_of_commit (committing.HistoryFull weight front) =
+    (codes "refused", codes "C01100" ∷ codes "history-full" ∷ decimal weight ∷ codes "front" ∷ decimal front ∷ [])
+words_of_commit (committing.DiskFault front) =
+    (codes "refused", codes "C01100" ∷ codes "disk-fault" ∷ codes "front" ∷ decimal front ∷ [])
 words_of_commit committing.Memory = (codes "memory", [])
 
 abbrev pub words_of_set : SetFault → Line
@@ -137,13 +159,16 @@ words_of_set (Commit fault) = words_of_commit fault
 
 abbrev pub words_of_end : MergeEnd → Line
 words_of_end (merge_end.MergeConflicts names) = (codes "merge-conflict", over shown names)
-words_of_end (merge_end.TriesSpent mount by front) = (codes "spent", shown mount ∷ codes "by" ∷ decimal by ∷ codes "front" ∷ decimal front ∷ [])
+words_of_end (merge_end.TriesSpent mount by front) =
+    (codes "spent", shown mount ∷ codes "by" ∷ decimal by ∷ codes "front" ∷ decimal front ∷ [])
 words_of_end (merge_end.Set fault) = words_of_set fault
 words_of_end merge_end.Memory = (codes "memory", [])
 
 abbrev pub words_of_undo : UndoFault → Line
-words_of_undo (undoing.NoCommit number front) = (codes "refused", codes "C01320" ∷ codes "no-commit" ∷ decimal number ∷ codes "front" ∷ decimal front ∷ [])
-words_of_undo (undoing.Overtaken name by front) = (codes "refused", codes "C02000" ∷ codes "overtaken" ∷ shown name ∷ codes "by" ∷ decimal by ∷ codes "front" ∷ decimal front ∷ [])
+words_of_undo (undoing.NoCommit number front) =
+    (codes "refused", codes "C01320" ∷ codes "no-commit" ∷ decimal number ∷ codes "front" ∷ decimal front ∷ [])
+words_of_undo (undoing.Overtaken name by front) =
+    (codes "refused", codes "C02000" ∷ codes "overtaken" ∷ shown name ∷ codes "by" ∷ decimal by ∷ codes "front" ∷ decimal front ∷ [])
 words_of_undo (undoing.Get fault) = words_of_get fault
 words_of_undo (undoing.Set fault) = words_of_set fault
 words_of_undo undoing.Memory = (codes "memory", [])
@@ -153,7 +178,8 @@ words_of_done (Committed number aside) = (codes "commit", decimal number ∷ cod
 words_of_done (Same front aside) = (codes "same", decimal front ∷ codes "aside" ∷ decimal aside ∷ [])
 
 abbrev pub words_of_try : Tried → Line
-words_of_try item = (codes "tried", shown item.mount ∷ codes "by" ∷ decimal item.by ∷ codes "front" ∷ decimal item.front ∷ codes "again" ∷ decimal item.again ∷ [])
+words_of_try item =
+    (codes "tried", shown item.mount ∷ codes "by" ∷ decimal item.by ∷ codes "front" ∷ decimal item.front ∷ codes "again" ∷ decimal item.again ∷ [])
 
 abbrev pub words_of_changed : Changed → Line
 words_of_changed item = (codes "~", decimal item.number ∷ sign_of item.removed ∷ shown item.name ∷ [])
@@ -345,7 +371,8 @@ undo-spells (undoing.Set fault) rest = set-spells fault rest
 undo-spells undoing.Memory rest = refl
 
 -- the lines of a merge: its tries, and its last
-merge-spells : (tried : List Tried) (last : Line) (line : List ℕ) → Spells last line → AllSpell (over words_of_try tried ++ last ∷ []) (over line_of_try tried ++ line ∷ [])
+merge-spells : (tried : List Tried) (last : Line) (line : List ℕ) → Spells last line
+    → AllSpell (over words_of_try tried ++ last ∷ []) (over line_of_try tried ++ line ∷ [])
 merge-spells [] last line spells = (spells, tt)
 merge-spells (item ∷ tried) last line spells = (λ rest. simp append_assoc, merge-spells tried last line spells)
 
@@ -361,8 +388,10 @@ reply-spells (LookFound name value) loud = (λ rest. simp append_assoc, tt)
 reply-spells LookNone loud = (λ rest. refl, tt)
 reply-spells (SetDone done) loud = (done-spells done, tt)
 reply-spells (SetRefused fault) loud = (set-spells fault, tt)
-reply-spells (Merged merging) loud = merge-spells merging.tried (words_of_done merging.done) (line_of_done merging.done) (done-spells merging.done)
-reply-spells (MergeRefused fault) loud = merge-spells fault.tried (words_of_end fault.end) (line_of_end fault.end) (end-spells fault.end)
+reply-spells (Merged merging) loud =
+    merge-spells merging.tried (words_of_done merging.done) (line_of_done merging.done) (done-spells merging.done)
+reply-spells (MergeRefused fault) loud =
+    merge-spells fault.tried (words_of_end fault.end) (line_of_end fault.end) (end-spells fault.end)
 reply-spells (Watching front) loud = (λ rest. simp append_assoc, tt)
 reply-spells (News news) loud = (λ rest. simp append_assoc, changed-spells news.changes)
 reply-spells NoWatch loud = (λ rest. refl, tt)
@@ -371,38 +400,56 @@ reply-spells (UndoRefused fault) loud = (undo-spells fault, tt)
 reply-spells Memory loud = (λ rest. refl, tt)
 
 get-HasWords : (fault : GetFault) → HasWords (words_of_get fault)
-get-HasWords (getting.BadFile mount number) = (Plain refl, (Plain refl, (Plain refl, (name-IsWord mount, (number-IsWord number, tt)))))
-get-HasWords (getting.TooLong mount bytes) = (Plain refl, (Plain refl, (Plain refl, (name-IsWord mount, (number-IsWord bytes, tt)))))
-get-HasWords (getting.TooHeavy mount weight) = (Plain refl, (Plain refl, (Plain refl, (name-IsWord mount, (number-IsWord weight, tt)))))
+get-HasWords (getting.BadFile mount number) =
+    (Plain refl, (Plain refl, (Plain refl, (name-IsWord mount, (number-IsWord number, tt)))))
+get-HasWords (getting.TooLong mount bytes) =
+    (Plain refl, (Plain refl, (Plain refl, (name-IsWord mount, (number-IsWord bytes, tt)))))
+get-HasWords (getting.TooHeavy mount weight) =
+    (Plain refl, (Plain refl, (Plain refl, (name-IsWord mount, (number-IsWord weight, tt)))))
 get-HasWords getting.Memory = (Plain refl, tt)
 
 table-HasWords : (fault : TableFault) → HasWords (words_of_table fault)
-table-HasWords (table.BadMountpoint entry) = (Plain refl, (Plain refl, (Plain refl, (Plain refl, (quoted-IsWord entry, tt)))))
+table-HasWords (table.BadMountpoint entry) =
+    (Plain refl, (Plain refl, (Plain refl, (Plain refl, (quoted-IsWord entry, tt)))))
 table-HasWords (table.NoPath entry) = (Plain refl, (Plain refl, (Plain refl, (Plain refl, (quoted-IsWord entry, tt)))))
 table-HasWords (table.BadPath entry) = (Plain refl, (Plain refl, (Plain refl, (Plain refl, (quoted-IsWord entry, tt)))))
-table-HasWords (table.UnknownPlugin entry) = (Plain refl, (Plain refl, (Plain refl, (Plain refl, (quoted-IsWord entry, tt)))))
-table-HasWords (table.FileTwice entry) = (Plain refl, (Plain refl, (Plain refl, (Plain refl, (quoted-IsWord entry, tt)))))
-table-HasWords (table.BadConflicts entry) = (Plain refl, (Plain refl, (Plain refl, (Plain refl, (quoted-IsWord entry, tt)))))
+table-HasWords (table.UnknownPlugin entry) =
+    (Plain refl, (Plain refl, (Plain refl, (Plain refl, (quoted-IsWord entry, tt)))))
+table-HasWords (table.FileTwice entry) =
+    (Plain refl, (Plain refl, (Plain refl, (Plain refl, (quoted-IsWord entry, tt)))))
+table-HasWords (table.BadConflicts entry) =
+    (Plain refl, (Plain refl, (Plain refl, (Plain refl, (quoted-IsWord entry, tt)))))
 table-HasWords (table.TooMany count) = (Plain refl, (Plain refl, (Plain refl, (Plain refl, (number-IsWord count, tt)))))
-table-HasWords (table.AlreadyMounted entry) = (Plain refl, (Plain refl, (Plain refl, (Plain refl, (quoted-IsWord entry, tt)))))
-table-HasWords (table.NotMounted entry) = (Plain refl, (Plain refl, (Plain refl, (Plain refl, (quoted-IsWord entry, tt)))))
+table-HasWords (table.AlreadyMounted entry) =
+    (Plain refl, (Plain refl, (Plain refl, (Plain refl, (quoted-IsWord entry, tt)))))
+table-HasWords (table.NotMounted entry) =
+    (Plain refl, (Plain refl, (Plain refl, (Plain refl, (quoted-IsWord entry, tt)))))
 table-HasWords table.Memory = (Plain refl, tt)
 
 prepare-HasWords : (fault : PrepareFault) → HasWords (words_of_prepare fault)
 prepare-HasWords (preparing.NotFetched mount) = (Plain refl, (Plain refl, (Plain refl, (name-IsWord mount, tt))))
-prepare-HasWords (preparing.ValueTooLong key bytes) = (Plain refl, (Plain refl, (Plain refl, (name-IsWord key, (number-IsWord bytes, tt)))))
-prepare-HasWords (preparing.NotStorable mount key) = (Plain refl, (Plain refl, (Plain refl, (name-IsWord mount, (name-IsWord key, tt)))))
-prepare-HasWords (preparing.FileTooLarge mount bytes) = (Plain refl, (Plain refl, (Plain refl, (name-IsWord mount, (number-IsWord bytes, tt)))))
+prepare-HasWords (preparing.ValueTooLong key bytes) =
+    (Plain refl, (Plain refl, (Plain refl, (name-IsWord key, (number-IsWord bytes, tt)))))
+prepare-HasWords (preparing.NotStorable mount key) =
+    (Plain refl, (Plain refl, (Plain refl, (name-IsWord mount, (name-IsWord key, tt)))))
+prepare-HasWords (preparing.FileTooLarge mount bytes) =
+    (Plain refl, (Plain refl, (Plain refl, (name-IsWord mount, (number-IsWord bytes, tt)))))
 prepare-HasWords (preparing.BadTable fault) = table-HasWords fault
 prepare-HasWords preparing.Memory = (Plain refl, tt)
 
 commit-HasWords : (fault : CommitFault) → HasWords (words_of_commit fault)
-commit-HasWords (committing.Conflict mount by front) = (Plain refl, (name-IsWord mount, (Plain refl, (number-IsWord by, (Plain refl, (number-IsWord front, tt))))))
-commit-HasWords (committing.FileTooLarge mount bytes front) = (Plain refl, (Plain refl, (Plain refl, (name-IsWord mount, (number-IsWord bytes, (Plain refl, (number-IsWord front, tt)))))))
-commit-HasWords (committing.Invalid violation front) = (Plain refl, (Plain refl, (Plain refl, (name-IsWord (violation.key), (Plain refl, (number-IsWord (violation.rule), (Plain refl, (quoted-IsWord (violation.given), (Plain refl, (number-IsWord front, tt))))))))))
-commit-HasWords (committing.DatabaseFull weight front) = (Plain refl, (Plain refl, (Plain refl, (number-IsWord weight, (Plain refl, (number-IsWord front, tt))))))
-commit-HasWords (committing.HistoryFull weight front) = (Plain refl, (Plain refl, (Plain refl, (number-IsWord weight, (Plain refl, (number-IsWord front, tt))))))
-commit-HasWords (committing.DiskFault front) = (Plain refl, (Plain refl, (Plain refl, (Plain refl, (number-IsWord front, tt)))))
+commit-HasWords (committing.Conflict mount by front) =
+    (Plain refl, (name-IsWord mount, (Plain refl, (number-IsWord by, (Plain refl, (number-IsWord front, tt))))))
+commit-HasWords (committing.FileTooLarge mount bytes front) =
+    (Plain refl, (Plain refl, (Plain refl, (name-IsWord mount, (number-IsWord bytes, (Plain refl, (number-IsWord front, tt)))))))
+commit-HasWords (committing.Invalid violation front) =
+    (Plain refl, (Plain refl, (Plain refl, (name-IsWord (violation.key), (Plain refl, (number-IsWord (violation.rule), (Plain refl, (quoted-IsWord (violation.given), (Plain refl, (number-IsWord front, tt))))))))))
+commit-HasWords (committing.DatabaseFull weight front) =
+    (Plain refl, (Plain refl, (Plain refl, (number-IsWord weight, (Plain refl, (number-IsWord front, tt))))))
+commit-HasWords (committing.HistoryFull weight front) =
+    (Plain refl, (Plain refl, (Plain refl, (number-IsWord weight, (Plain refl, (number-IsWord front, tt))))))
+commit-HasWords (committing.DiskFault front) =
+    (Plain refl, (Plain refl, (Plain refl, (Plain refl, (number-IsWord front, tt)))))
 commit-HasWords committing.Memory = (Plain refl, tt)
 
 done-HasWords : (fault : Done) → HasWords (words_of_done fault)
@@ -415,13 +462,16 @@ set-HasWords (Commit fault) = commit-HasWords fault
 
 end-HasWords : (end : MergeEnd) → HasWords (words_of_end end)
 end-HasWords (merge_end.MergeConflicts names) = (Plain refl, names-HasWords names)
-end-HasWords (merge_end.TriesSpent mount by front) = (Plain refl, (name-IsWord mount, (Plain refl, (number-IsWord by, (Plain refl, (number-IsWord front, tt))))))
+end-HasWords (merge_end.TriesSpent mount by front) =
+    (Plain refl, (name-IsWord mount, (Plain refl, (number-IsWord by, (Plain refl, (number-IsWord front, tt))))))
 end-HasWords (merge_end.Set fault) = set-HasWords fault
 end-HasWords merge_end.Memory = (Plain refl, tt)
 
 undo-HasWords : (fault : UndoFault) → HasWords (words_of_undo fault)
-undo-HasWords (undoing.NoCommit number front) = (Plain refl, (Plain refl, (Plain refl, (number-IsWord number, (Plain refl, (number-IsWord front, tt))))))
-undo-HasWords (undoing.Overtaken name by front) = (Plain refl, (Plain refl, (Plain refl, (name-IsWord name, (Plain refl, (number-IsWord by, (Plain refl, (number-IsWord front, tt))))))))
+undo-HasWords (undoing.NoCommit number front) =
+    (Plain refl, (Plain refl, (Plain refl, (number-IsWord number, (Plain refl, (number-IsWord front, tt))))))
+undo-HasWords (undoing.Overtaken name by front) =
+    (Plain refl, (Plain refl, (Plain refl, (name-IsWord name, (Plain refl, (number-IsWord by, (Plain refl, (number-IsWord front, tt))))))))
 undo-HasWords (undoing.Get fault) = get-HasWords fault
 undo-HasWords (undoing.Set fault) = set-HasWords fault
 undo-HasWords undoing.Memory = (Plain refl, tt)
@@ -454,7 +504,8 @@ sign-IsWord false = Plain refl
 
 changed-HasWords : (changes : List Changed) → AllByRecursion HasWords (over words_of_changed changes)
 changed-HasWords [] = tt
-changed-HasWords (item ∷ changes) = ((Plain refl, (number-IsWord item.number, (sign-IsWord item.removed, (name-IsWord item.name, tt)))), changed-HasWords changes)
+changed-HasWords (item ∷ changes) =
+    ((Plain refl, (number-IsWord item.number, (sign-IsWord item.removed, (name-IsWord item.name, tt)))), changed-HasWords changes)
 
 pub reply-HasWords : (reply : Reply) → AllByRecursion HasWords (words_of_lines reply)
 reply-HasWords reply =

@@ -53,7 +53,8 @@ memory-told [] = refl
 memory-told (Quiet ∷ replies) = memory-told replies
 memory-told (reply ∷ replies) = ap₂ (λ a b. a || b) (memory-told_of reply) (memory-told replies)
 
-memory-sessions : (sessions : List (List Reply)) → list_any (list_any wants_memory) (over told sessions) ≡ list_any (list_any is_memory) sessions
+memory-sessions : (sessions : List (List Reply))
+    → list_any (list_any wants_memory) (over told sessions) ≡ list_any (list_any is_memory) sessions
 memory-sessions [] = refl
 memory-sessions (replies ∷ sessions) = ap₂ (λ a b. a || b) (memory-told replies) (memory-sessions sessions)
 
@@ -72,21 +73,24 @@ pub quiet_is : (reply : Reply) → is_quiet reply ≡ true → reply ≡ Quiet
 quiet_is Quiet e = refl
 quiet_is reply e = absurd cc
 
-quiet_where : (step : Step) (reply : Reply) → IsReplyTo step reply → is_memory reply ≡ false → is_quiet reply ≡ edits step
+quiet_where : (step : Step) (reply : Reply) → IsReplyTo step reply → is_memory reply ≡ false
+    → is_quiet reply ≡ edits step
 quiet_where step reply of none =
     elim of.quiet [
       | inl same ↦ same
       | inr is ↦ let wants : is_memory reply ≡ true = ap is_memory is in absurd cc
     ]
 
-pub merge_where : (step : Step) (reply : Reply) → IsReplyTo step reply → is_memory reply ≡ false → is_merge reply ≡ merges step
+pub merge_where : (step : Step) (reply : Reply) → IsReplyTo step reply → is_memory reply ≡ false
+    → is_merge reply ≡ merges step
 merge_where step reply of none =
     elim of.merge [
       | inl same ↦ same
       | inr is ↦ let wants : is_memory reply ≡ true = ap is_memory is in absurd cc
     ]
 
-pub undo_where : (step : Step) (reply : Reply) → IsReplyTo step reply → is_memory reply ≡ false → is_undo reply ≡ undoes step
+pub undo_where : (step : Step) (reply : Reply) → IsReplyTo step reply → is_memory reply ≡ false
+    → is_undo reply ≡ undoes step
 undo_where step reply of none =
     elim of.undo [
       | inl same ↦ same
@@ -111,7 +115,8 @@ not_done done (merge_end.TriesSpent mount by front) e = cc
 not_done done (merge_end.Set fault) e = cc
 not_done done merge_end.Memory e = cc
 
-merge-same : (a b : Reply) → is_merge a ≡ true → is_merge b ≡ true → tries_of a ≡ tries_of b → last_of a ≡ last_of b → a ≡ b
+merge-same : (a b : Reply) → is_merge a ≡ true → is_merge b ≡ true → tries_of a ≡ tries_of b → last_of a ≡ last_of b
+    → a ≡ b
 merge-same (Merged one) (Merged other) is too tried last =
     let same : SetDone one.done ≡ SetDone other.done = last in let done : one.done ≡ other.done = cc in λ i. Merged (record { tried = tried i; done = done i })
 merge-same (Merged one) (MergeRefused fault) is too tried last = absurd (not_done one.done fault.end last)
@@ -156,28 +161,36 @@ plain-last (Undone done) none no_undo = absurd cc
 plain-last (UndoRefused fault) none no_undo = absurd cc
 plain-last reply none no_undo = refl
 
-other-same : (a b : Reply) (undo : Bool) → is_merge a ≡ false → is_merge b ≡ false → is_undo a ≡ undo → is_undo b ≡ undo → last_of a ≡ last_of b → a ≡ b
+other-same : (a b : Reply) (undo : Bool) → is_merge a ≡ false → is_merge b ≡ false → is_undo a ≡ undo → is_undo b ≡ undo
+    → last_of a ≡ last_of b → a ≡ b
 other-same a b true plain too is also last = undo-same a b is also last
 other-same a b false plain too is also last = sym (plain-last a plain is) ∙ (last ∙ plain-last b too also)
 
 -- two replies to a step that tell the same tries and have the same last line are the same
-pub reply-same : (step : Step) (a b : Reply) → IsReplyTo step a → IsReplyTo step b → is_memory a ≡ false → is_memory b ≡ false → tries_of a ≡ tries_of b → last_of a ≡ last_of b → a ≡ b
-reply-same step a b one other none no_memory tried last = by (merges step) (merge_where step a one none) (merge_where step b other no_memory)
+pub reply-same : (step : Step) (a b : Reply) → IsReplyTo step a → IsReplyTo step b → is_memory a ≡ false
+    → is_memory b ≡ false → tries_of a ≡ tries_of b → last_of a ≡ last_of b → a ≡ b
+reply-same step a b one other none no_memory tried last =
+    by (merges step) (merge_where step a one none) (merge_where step b other no_memory)
   where
     by : (merge : Bool) → is_merge a ≡ merge → is_merge b ≡ merge → a ≡ b
     by true is too = merge-same a b is too tried last
-    by false is too = other-same a b (undoes step) is too (undo_where step a one none) (undo_where step b other no_memory) last
+    by false is too =
+        other-same a b (undoes step) is too (undo_where step a one none) (undo_where step b other no_memory) last
 
 pub told-quiet : (reply : Reply) (replies : List Reply) → is_quiet reply ≡ true → told (reply ∷ replies) ≡ told replies
 told-quiet reply replies quiet = ap (λ r. told (r ∷ replies)) (quiet_is reply quiet)
 
-pub told-line : (reply : Reply) (replies : List Reply) → is_quiet reply ≡ false → told (reply ∷ replies) ≡ told_of reply ∷ told replies
+pub told-line : (reply : Reply) (replies : List Reply) → is_quiet reply ≡ false
+    → told (reply ∷ replies) ≡ told_of reply ∷ told replies
 told-line reply replies quiet = ap (λ b. over told_of (if not b then reply ∷ loud replies else loud replies)) quiet
 
-told-loud : (reply : Reply) (replies : List Reply) → is_quiet reply ≡ false → is_memory reply ≡ false → told (reply ∷ replies) ≡ (tries_of reply, last_of reply) ∷ told replies
-told-loud reply replies quiet none = told-line reply replies quiet ∙ ap (λ b. (tries_of reply, if b then Memory else last_of reply) ∷ told replies) none
+told-loud : (reply : Reply) (replies : List Reply) → is_quiet reply ≡ false → is_memory reply ≡ false
+    → told (reply ∷ replies) ≡ (tries_of reply, last_of reply) ∷ told replies
+told-loud reply replies quiet none =
+    told-line reply replies quiet ∙ ap (λ b. (tries_of reply, if b then Memory else last_of reply) ∷ told replies) none
 
-steps-whole : (steps : List Step) (xs ys : List Reply) → AreOfSteps steps xs → AreOfSteps steps ys → list_any is_memory xs ≡ false → list_any is_memory ys ≡ false → told xs ≡ told ys → xs ≡ ys
+steps-whole : (steps : List Step) (xs ys : List Reply) → AreOfSteps steps xs → AreOfSteps steps ys
+    → list_any is_memory xs ≡ false → list_any is_memory ys ≡ false → told xs ≡ told ys → xs ≡ ys
 steps-whole [] [] [] hs ks p q e = refl
 steps-whole [] [] (y ∷ ys) hs ks p q e = absurd ks
 steps-whole [] (x ∷ xs) ys hs ks p q e = absurd hs
@@ -200,7 +213,9 @@ steps-whole (step ∷ steps) (x ∷ xs) (y ∷ ys) hs ks p q e =
           ap₂ (λ r rs. r ∷ rs) first rest
     ]
 
-sessions-whole : (sessions : List Steps) (xs ys : List (List Reply)) → AreOfSessions sessions xs → AreOfSessions sessions ys → list_any (list_any is_memory) xs ≡ false → list_any (list_any is_memory) ys ≡ false → over told xs ≡ over told ys → xs ≡ ys
+sessions-whole : (sessions : List Steps) (xs ys : List (List Reply)) → AreOfSessions sessions xs
+    → AreOfSessions sessions ys → list_any (list_any is_memory) xs ≡ false → list_any (list_any is_memory) ys ≡ false
+    → over told xs ≡ over told ys → xs ≡ ys
 sessions-whole [] [] [] hs ks p q e = refl
 sessions-whole [] [] (y ∷ ys) hs ks p q e = absurd ks
 sessions-whole [] (x ∷ xs) ys hs ks p q e = absurd hs
@@ -211,7 +226,9 @@ sessions-whole (steps ∷ others) (x ∷ xs) (y ∷ ys) hs ks p q e =
     let no_y = neither (list_any is_memory y) (list_any (list_any is_memory) ys) q in
     ap₂ (λ r rs. r ∷ rs) (steps-whole steps.steps x y hs.0 ks.0 no_x.0 no_y.0 cc) (sessions-whole others xs ys hs.1 ks.1 no_x.1 no_y.1 cc)
 
-phases-whole : (phases : List Phase) (xs ys : List (List (List Reply))) → AreOfPhases phases xs → AreOfPhases phases ys → some_reply is_memory xs ≡ false → some_reply is_memory ys ≡ false → over (over told) xs ≡ over (over told) ys → xs ≡ ys
+phases-whole : (phases : List Phase) (xs ys : List (List (List Reply))) → AreOfPhases phases xs → AreOfPhases phases ys
+    → some_reply is_memory xs ≡ false → some_reply is_memory ys ≡ false → over (over told) xs ≡ over (over told) ys
+    → xs ≡ ys
 phases-whole [] [] [] hs ks p q e = refl
 phases-whole [] [] (y ∷ ys) hs ks p q e = absurd ks
 phases-whole [] (x ∷ xs) ys hs ks p q e = absurd hs
@@ -222,6 +239,7 @@ phases-whole (phase ∷ phases) (x ∷ xs) (y ∷ ys) hs ks p q e =
     let no_y = neither (list_any (list_any is_memory) y) (some_reply is_memory ys) q in
     ap₂ (λ r rs. r ∷ rs) (sessions-whole phase.sessions x y hs.0 ks.0 no_x.0 no_y.0 cc) (phases-whole phases xs ys hs.1 ks.1 no_x.1 no_y.1 cc)
 
-pub whole-once : (phases : List Phase) (a b : List (List (List Reply))) → AreOfPhases phases a → AreOfPhases phases b → some_reply is_memory a ≡ false → over (over told) a ≡ over (over told) b → a ≡ b
+pub whole-once : (phases : List Phase) (a b : List (List (List Reply))) → AreOfPhases phases a → AreOfPhases phases b
+    → some_reply is_memory a ≡ false → over (over told) a ≡ over (over told) b → a ≡ b
 whole-once phases a b hs ks none e =
     phases-whole phases a b hs ks none (sym (memory-phases b) ∙ (ap some_wants (sym e) ∙ (memory-phases a ∙ none))) e

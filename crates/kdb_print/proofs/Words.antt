@@ -43,7 +43,8 @@ behind-Ends : (words : List (List ℕ)) (rest : List ℕ) → Ends (behind words
 behind-Ends [] rest = omega arith
 behind-Ends (word ∷ words) rest = omega arith
 
-behind-cut : (vs bs : List (List ℕ)) (xs ys : List ℕ) → AllByRecursion IsWord vs → AllByRecursion IsWord bs → behind vs xs ≡ behind bs ys → (vs ≡ bs) × (xs ≡ ys)
+behind-cut : (vs bs : List (List ℕ)) (xs ys : List ℕ) → AllByRecursion IsWord vs → AllByRecursion IsWord bs
+    → behind vs xs ≡ behind bs ys → (vs ≡ bs) × (xs ≡ ys)
 behind-cut [] [] xs ys p q e = (refl, cc)
 behind-cut [] (b ∷ bs) xs ys p q e = absurd cc
 behind-cut (a ∷ vs) [] xs ys p q e = absurd cc
@@ -59,7 +60,8 @@ no_line [] (word ∷ words) rest e = cc
 no_line (b ∷ word) words rest e = cc
 
 -- a text of lines with words tells them
-pub text_of-once : (vs bs : List Line) → AllByRecursion HasWords vs → AllByRecursion HasWords bs → text_of vs ≡ text_of bs → vs ≡ bs
+pub text_of-once : (vs bs : List Line) → AllByRecursion HasWords vs → AllByRecursion HasWords bs
+    → text_of vs ≡ text_of bs → vs ≡ bs
 text_of-once [] [] p q e = refl
 text_of-once [] ((b, bs) ∷ lines) p q e = absurd (no_line b bs (text_of lines) e)
 text_of-once ((a, vs) ∷ lines) [] p q e = absurd (no_line a vs (text_of lines) (sym e))
@@ -80,7 +82,8 @@ AllSpell [] (line ∷ lines) = ⊥
 AllSpell (words ∷ rest) [] = ⊥
 AllSpell (words ∷ rest) (line ∷ lines) = Spells words line × AllSpell rest lines
 
-pub AllSpell-append : (xs ys : List Line) (ls ms : List (List ℕ)) → AllSpell xs ls → AllSpell ys ms → AllSpell (xs ++ ys) (ls ++ ms)
+pub AllSpell-append : (xs ys : List Line) (ls ms : List (List ℕ)) → AllSpell xs ls → AllSpell ys ms
+    → AllSpell (xs ++ ys) (ls ++ ms)
 AllSpell-append [] ys [] ms p q = q
 AllSpell-append [] ys (line ∷ ls) ms p q = absurd p
 AllSpell-append (words ∷ xs) ys [] ms p q = absurd p
@@ -91,7 +94,8 @@ ended-text_of [] [] p = refl
 ended-text_of [] (line ∷ lines) p = absurd p
 ended-text_of (words ∷ rest) [] p = absurd p
 ended-text_of ((first, others) ∷ rest) (line ∷ lines) p =
-    append_assoc line (10 ∷ []) (ended lines) ∙ (p.0 (ended lines) ∙ ap (λ text. first ++ behind others text) (ended-text_of rest lines p.1))
+    append_assoc line (10 ∷ []) (ended lines)
+    ∙ (p.0 (ended lines) ∙ ap (λ text. first ++ behind others text) (ended-text_of rest lines p.1))
 
 -- numbers that differ are not the same, as a test that computes
 pub numbers_test : (m n : ℕ) → m ≡ n → T (nat_eq m n)
@@ -101,7 +105,8 @@ numbers_test m n e = true_is (nat_eq m n) (eq-eqb m n e)
 glyph_plain : (d : ℕ) → d < 10 → is_plain_byte (digit_glyph false d) ≡ true
 glyph_plain d small = grind (arith, nat_tests)
 
-digits_plain : (k n : ℕ) (digits : List ℕ) → list_all is_plain_byte digits ≡ true → list_all is_plain_byte (digits_onto k 10 false n digits) ≡ true
+digits_plain : (k n : ℕ) (digits : List ℕ) → list_all is_plain_byte digits ≡ true
+    → list_all is_plain_byte (digits_onto k 10 false n digits) ≡ true
 digits_plain zero n digits plain = plain
 digits_plain (suc k) n digits plain =
     let more : list_all is_plain_byte (digit_glyph false (n % 10) ∷ digits) ≡ true = and_from _ _ (glyph_plain (n % 10) (omega arith)) plain in
@@ -116,7 +121,8 @@ pub name-IsWord : (name : Name) → IsWord (shown name)
 name-IsWord name = shown_text-IsWord (spelling name)
 
 -- names behind a first word, each behind a blank
-pub names-spell : (names : List Name) (rest : List ℕ) → flat_map (λ name. 32 ∷ shown name) names ++ 10 ∷ rest ≡ behind (over shown names) rest
+pub names-spell : (names : List Name) (rest : List ℕ)
+    → flat_map (λ name. 32 ∷ shown name) names ++ 10 ∷ rest ≡ behind (over shown names) rest
 names-spell [] rest = refl
 names-spell (name ∷ names) rest =
     ap (λ text. 32 ∷ text) (append_assoc (shown name) (flat_map (λ n. 32 ∷ shown n) names) (10 ∷ rest) ∙ ap (λ text. shown name ++ text) (names-spell names rest))
@@ -125,7 +131,8 @@ pub names-HasWords : (names : List Name) → AllByRecursion IsWord (over shown n
 names-HasWords [] = tt
 names-HasWords (name ∷ names) = (name-IsWord name, names-HasWords names)
 
-pub names-once : (ms ns : List Name) → AllByRecursion IsName ms → AllByRecursion IsName ns → over shown ms ≡ over shown ns → ms ≡ ns
+pub names-once : (ms ns : List Name) → AllByRecursion IsName ms → AllByRecursion IsName ns
+    → over shown ms ≡ over shown ns → ms ≡ ns
 names-once [] [] hs ks e = refl
 names-once [] (n ∷ ns) hs ks e = absurd cc
 names-once (m ∷ ms) [] hs ks e = absurd cc
@@ -133,6 +140,7 @@ names-once (m ∷ ms) (n ∷ ns) hs ks e =
     ap₂ (λ x xs. x ∷ xs) (shown-once m n hs.0 ks.0 (head_is (shown m) (shown n) (over shown ms) (over shown ns) e)) (names-once ms ns hs.1 ks.1 (tail_is (shown m) (shown n) (over shown ms) (over shown ns) e))
 
 -- lines one behind the other
-pub words-append : (xs ys : List Line) → AllByRecursion HasWords xs → AllByRecursion HasWords ys → AllByRecursion HasWords (xs ++ ys)
+pub words-append : (xs ys : List Line) → AllByRecursion HasWords xs → AllByRecursion HasWords ys
+    → AllByRecursion HasWords (xs ++ ys)
 words-append [] ys p q = q
 words-append (x ∷ xs) ys p q = (p.0, words-append xs ys p.1 q)

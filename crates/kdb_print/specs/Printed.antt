@@ -38,7 +38,8 @@ line_of_meta (name, text) = codes ". " ++ (quoted name ++ (32 ∷ quoted text))
 
 -- a key with its value, and behind it a line for each of its metadata, in the order of their names
 abbrev pub lines_of_key : Name → Entry → List (List ℕ)
-lines_of_key name entry = (codes "+ " ++ (shown name ++ (32 ∷ quoted entry.value))) ∷ over line_of_meta (map.entries entry.meta)
+lines_of_key name entry =
+    (codes "+ " ++ (shown name ++ (32 ∷ quoted entry.value))) ∷ over line_of_meta (map.entries entry.meta)
 
 -- a key that is removed
 abbrev pub line_of_removal : Name → List ℕ
@@ -76,7 +77,8 @@ lines_of_commits mounts sessions number (commit ∷ commits) =
 
 -- the history: how many commits there are, and each of them
 abbrev pub lines_of_history : List Mount → List ℕ → List Commit → List (List ℕ)
-lines_of_history mounts sessions history = (codes "history " ++ decimal (length history)) ∷ lines_of_commits mounts sessions 1 history
+lines_of_history mounts sessions history =
+    (codes "history " ++ decimal (length history)) ∷ lines_of_commits mounts sessions 1 history
 
 -- what a batch prints: its phases, the history, and a last line by which its end is known
 abbrev pub printed : List Mount → List ℕ → Script → List (List (List Reply)) → List Commit → List ℕ

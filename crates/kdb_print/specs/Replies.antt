@@ -100,7 +100,8 @@ line_of_end merge_end.Memory = memory
 
 -- a commit that is not there to be taken back, and one of whose names a later commit changed too
 abbrev pub line_of_missing : ℕ → ℕ → List ℕ
-line_of_missing number front = codes "refused C01320 no-commit " ++ (decimal number ++ (codes " front " ++ decimal front))
+line_of_missing number front =
+    codes "refused C01320 no-commit " ++ (decimal number ++ (codes " front " ++ decimal front))
 
 abbrev pub line_of_overtaken : Name → ℕ → ℕ → List ℕ
 line_of_overtaken name by front =

@@ -78,8 +78,10 @@ pub fn a_status_tells_the_worst_reply()
     ensures well { status_of (((Got 0 0 ∷ Quiet ∷ []) ∷ []) ∷ []) ≡ 0 }
     ensures refused { status_of (((SetRefused (Prepare (NotFetched (name User []))) ∷ []) ∷ []) ∷ []) ≡ 0 }
     ensures fault { status_of (((SetRefused (Commit (DiskFault 0)) ∷ []) ∷ []) ∷ ((Quiet ∷ []) ∷ []) ∷ []) ≡ 74 }
-    ensures merge { status_of (((unmerged (tried 1 2 4 ∷ []) (merge_end.Set (Commit (DiskFault 4))) ∷ []) ∷ []) ∷ []) ≡ 74 }
-    ensures memory { status_of (((SetRefused (Commit (DiskFault 0)) ∷ []) ∷ []) ∷ ((SetRefused (Prepare Unprepared) ∷ []) ∷ []) ∷ []) ≡ 70 }
+    ensures merge { status_of (((unmerged (tried 1 2 4 ∷ []) (merge_end.Set (Commit (DiskFault 4))) ∷ []) ∷ []) ∷ [])
+        ≡ 74 }
+    ensures memory { status_of (((SetRefused (Commit (DiskFault 0)) ∷ []) ∷ []) ∷ ((SetRefused (Prepare Unprepared) ∷ []) ∷ []) ∷ [])
+        ≡ 70 }
     ensures cut { status_of (((unmerged (tried 1 2 4 ∷ []) merge_end.Memory ∷ []) ∷ []) ∷ []) ≡ 70 }
     ensures undone { status_of (((Undone (Committed 3 0) ∷ UndoRefused (undoing.NoCommit 9 3) ∷ []) ∷ []) ∷ []) ≡ 0 }
     ensures undo_fault { status_of (((UndoRefused (undoing.Set (Commit (DiskFault 2))) ∷ []) ∷ []) ∷ []) ≡ 74 }

@@ -14,9 +14,21 @@ ghost use Rattle.mount_table.specs.declared.mounts.Mount.{Mount};
 /// replies. Where in a phase no edit of a session wanted memory, it tells which of them it was, too: then each line is
 /// known to be whose.
 pub fn the_text_tells_the_batch()
-    ensures history { (mounts : List Mount) (sessions : List ℕ) (script : Script) (a b : List (List (List Reply))) (h k : List Commit) → AreNamed mounts sessions → IsBatch mounts sessions script a h → IsBatch mounts sessions script b k → printed mounts sessions script a h ≡ printed mounts sessions script b k → h ≡ k }
-    ensures replies { (mounts : List Mount) (sessions : List ℕ) (script : Script) (a b : List (List (List Reply))) (h k : List Commit) → AreNamed mounts sessions → IsBatch mounts sessions script a h → IsBatch mounts sessions script b k → printed mounts sessions script a h ≡ printed mounts sessions script b k → over (over told) a ≡ over (over told) b }
-    ensures whole { (mounts : List Mount) (sessions : List ℕ) (script : Script) (a b : List (List (List Reply))) (h k : List Commit) → AreNamed mounts sessions → IsBatch mounts sessions script a h → IsBatch mounts sessions script b k → some_reply is_memory a ≡ false → printed mounts sessions script a h ≡ printed mounts sessions script b k → a ≡ b }
-    ensures exact { (mounts : List Mount) (sessions : List ℕ) (script : Script) (a b : List (List (List Reply))) (h k : List Commit) → AreNamed mounts sessions → IsBatch mounts sessions script a h → IsBatch mounts sessions script b k → printed mounts sessions script a h ≡ printed mounts sessions script b k
-        → (p i : ℕ) (steps : List Step) (mine others : List Reply) → StandAt script a p i steps mine → StandAt script b p i steps others → EditAll steps mine → over said_of mine ≡ over said_of others }
+    ensures history { (mounts : List Mount) (sessions : List ℕ) (script : Script) (a b : List (List (List Reply)))
+        (h k : List Commit) → AreNamed mounts sessions → IsBatch mounts sessions script a h
+        → IsBatch mounts sessions script b k → printed mounts sessions script a h ≡ printed mounts sessions script b k
+        → h ≡ k }
+    ensures replies { (mounts : List Mount) (sessions : List ℕ) (script : Script) (a b : List (List (List Reply)))
+        (h k : List Commit) → AreNamed mounts sessions → IsBatch mounts sessions script a h
+        → IsBatch mounts sessions script b k → printed mounts sessions script a h ≡ printed mounts sessions script b k
+        → over (over told) a ≡ over (over told) b }
+    ensures whole { (mounts : List Mount) (sessions : List ℕ) (script : Script) (a b : List (List (List Reply)))
+        (h k : List Commit) → AreNamed mounts sessions → IsBatch mounts sessions script a h
+        → IsBatch mounts sessions script b k → some_reply is_memory a ≡ false
+        → printed mounts sessions script a h ≡ printed mounts sessions script b k → a ≡ b }
+    ensures exact { (mounts : List Mount) (sessions : List ℕ) (script : Script) (a b : List (List (List Reply)))
+        (h k : List Commit) → AreNamed mounts sessions → IsBatch mounts sessions script a h
+        → IsBatch mounts sessions script b k → printed mounts sessions script a h ≡ printed mounts sessions script b k
+        → (p i : ℕ) (steps : List Step) (mine others : List Reply) → StandAt script a p i steps mine
+        → StandAt script b p i steps others → EditAll steps mine → over said_of mine ≡ over said_of others }
 {}

@@ -12,7 +12,8 @@ use Rattle.model_quoting.specs.Quoted.{quoted_byte}
 
 flat_map-quoted_byte-same : (bytes : List ℕ) → AllByRecursion IsBare bytes → flat_map quoted_byte bytes ≡ bytes
 flat_map-quoted_byte-same [] h = refl
-flat_map-quoted_byte-same (b ∷ bytes) h = ap₂ (λ front rest. front ++ rest) (quoted_byte-bare b h.0) (flat_map-quoted_byte-same bytes h.1)
+flat_map-quoted_byte-same (b ∷ bytes) h =
+    ap₂ (λ front rest. front ++ rest) (quoted_byte-bare b h.0) (flat_map-quoted_byte-same bytes h.1)
 
 -- a letter that has an ASCII byte at a place is that byte
 letter_at : (c k d : ℕ) → k < length (encode_utf8 c) → get_or (encode_utf8 c) k d < 128 → c ≡ get_or (encode_utf8 c) k d
@@ -40,6 +41,10 @@ pub flat_map-quoted_byte-letter : (c : ℕ) → IsBare c → flat_map quoted_byt
 flat_map-quoted_byte-letter c h =
     flat_map-quoted_byte-same (encode_utf8 c) (recursion_from_All IsBare (encode_utf8 c) (λ k d lt. IsBare-byte c (get_or (encode_utf8 c) k d) h (letter_at c k d lt)))
 
-pub flat_map-quoted_byte-push : (letters : List ℕ) (c : ℕ) → flat_map quoted_byte (encode_utf8_all (letters ++ c ∷ [])) ≡ flat_map quoted_byte (encode_utf8_all letters) ++ flat_map quoted_byte (encode_utf8 c)
+pub flat_map-quoted_byte-push : (letters : List ℕ) (c : ℕ)
+    → flat_map quoted_byte (encode_utf8_all (letters ++ c ∷ []))
+    ≡ flat_map quoted_byte (encode_utf8_all letters) ++ flat_map quoted_byte (encode_utf8 c)
 flat_map-quoted_byte-push letters c =
-    ap (flat_map quoted_byte) (encodes-append letters (c ∷ [])) ∙ flat_map-append quoted_byte (encode_utf8_all letters) (encode_utf8 c ++ []) ∙ ap (λ bytes. flat_map quoted_byte (encode_utf8_all letters) ++ flat_map quoted_byte bytes) (append-nil (encode_utf8 c))
+    ap (flat_map quoted_byte) (encodes-append letters (c ∷ []))
+    ∙ flat_map-append quoted_byte (encode_utf8_all letters) (encode_utf8 c ++ [])
+    ∙ ap (λ bytes. flat_map quoted_byte (encode_utf8_all letters) ++ flat_map quoted_byte bytes) (append-nil (encode_utf8 c))

@@ -49,15 +49,19 @@ replies-count (reply ∷ replies) is = by (λ some. replies-count replies some) 
     cons : sum_by failures_told (reply ∷ replies) ≡ failures_told reply + sum_by failures_told replies
     cons = sum_by-cons failures_told reply replies
 
-    by : (list_any is_disk_fault replies ≡ true → 0 < sum_by failures_told replies) → (b : Bool) → is_disk_fault reply ≡ b → (b || list_any is_disk_fault replies) ≡ true → 0 < sum_by failures_told (reply ∷ replies)
+    by : (list_any is_disk_fault replies ≡ true → 0 < sum_by failures_told replies) → (b : Bool)
+        → is_disk_fault reply ≡ b → (b || list_any is_disk_fault replies) ≡ true
+        → 0 < sum_by failures_told (reply ∷ replies)
     by rest true fails some = omega (arith, cons, reply-counts reply fails)
     by rest false none some = omega (arith, cons, rest some)
 
 -- ---- a sum over those numbers of a range that pass a test
 
-sum-filter : {A : Type 0} (f : A → ℕ) (h : ℕ → A) (test : ℕ → Bool) (n first count : ℕ) → first ≤ n → n < first + count → test n ≡ true → 0 < f (h n) → 0 < sum_by f (map h (filter test (range_with_len first count)))
+sum-filter : {A : Type 0} (f : A → ℕ) (h : ℕ → A) (test : ℕ → Bool) (n first count : ℕ) → first ≤ n → n < first + count
+    → test n ≡ true → 0 < f (h n) → 0 < sum_by f (map h (filter test (range_with_len first count)))
 sum-filter f h test n first zero le lt passes some = absurd (omega arith)
-sum-filter f h test n first (suc count) le lt passes some = by (λ le'. sum-filter f h test n (first + 1) count le' (omega (arith, lt)) passes some) (nat_eq first n) refl
+sum-filter f h test n first (suc count) le lt passes some =
+    by (λ le'. sum-filter f h test n (first + 1) count le' (omega (arith, lt)) passes some) (nat_eq first n) refl
   where
     rest : List ℕ
     rest = filter test (range_with_len (first + 1) count)
@@ -72,7 +76,8 @@ sum-filter f h test n first (suc count) le lt passes some = by (λ le'. sum-filt
     further true more = omega (arith, cons, more)
     further false more = more
 
-    by : (first + 1 ≤ n → 0 < sum_by f (map h rest)) → (b : Bool) → nat_eq first n ≡ b → 0 < sum_by f (map h (cond (test first) (first ∷ rest) rest))
+    by : (first + 1 ≤ n → 0 < sum_by f (map h rest)) → (b : Bool) → nat_eq first n ≡ b
+        → 0 < sum_by f (map h (cond (test first) (first ∷ rest) rest))
     by behind true is =
         let same = eqb-true first n is in
         let here : f (h first) ≡ f (h n) = ap (λ m. f (h m)) same in
@@ -92,14 +97,18 @@ record IsFaulty (least : ℕ) (phase : List Steps) (answers : List (List Reply))
   named : list_any (λ (steps : Steps). nat_eq steps.session session) phase ≡ true
   fails : list_any is_disk_fault (replies_in phase answers session) ≡ true
 
-row-faulty : (least : ℕ) (phase : List Steps) (answers : List (List Reply)) → IsRising least (map number_of phase) → AllByRecursion (λ (steps : Steps). steps.session ≤ most_sessions) phase
+row-faulty : (least : ℕ) (phase : List Steps) (answers : List (List Reply)) → IsRising least (map number_of phase)
+    → AllByRecursion (λ (steps : Steps). steps.session ≤ most_sessions) phase
     → AnswerEach phase answers → list_any (list_any is_disk_fault) answers ≡ true → IsFaulty least phase answers
 row-faulty least [] [] rises most each is = absurd cc
 row-faulty least [] (one ∷ answers) rises most each is = absurd each
 row-faulty least (steps ∷ phase) [] rises most each is = absurd each
-row-faulty least (steps ∷ phase) (one ∷ answers) rises most each is = by (λ some. row-faulty (steps.session + 1) phase answers rises.1 most.1 each.1 some) (list_any is_disk_fault one) refl is
+row-faulty least (steps ∷ phase) (one ∷ answers) rises most each is =
+    by (λ some. row-faulty (steps.session + 1) phase answers rises.1 most.1 each.1 some) (list_any is_disk_fault one) refl is
   where
-    by : (list_any (list_any is_disk_fault) answers ≡ true → IsFaulty (steps.session + 1) phase answers) → (b : Bool) → list_any is_disk_fault one ≡ b → (b || list_any (list_any is_disk_fault) answers) ≡ true → IsFaulty least (steps ∷ phase) (one ∷ answers)
+    by : (list_any (list_any is_disk_fault) answers ≡ true → IsFaulty (steps.session + 1) phase answers) → (b : Bool)
+        → list_any is_disk_fault one ≡ b → (b || list_any (list_any is_disk_fault) answers) ≡ true
+        → IsFaulty least (steps ∷ phase) (one ∷ answers)
     by further true fails some = record {
       session = steps.session;
       from = rises.0;
@@ -129,10 +138,13 @@ or-true false b is = is
 
 -- a session is named in some of these phases
 abbrev names : ℕ → List Phase → Bool
-names n phases = list_any (λ (phase : Phase). list_any (λ (steps : Steps). nat_eq steps.session n) phase.sessions) phases
+names n phases =
+    list_any (λ (phase : Phase). list_any (λ (steps : Steps). nat_eq steps.session n) phase.sessions) phases
 
-rows-count : (script : Script) (phases : List Phase) (rows : List (List (List Reply))) → AllByRecursion (λ (phase : Phase). AreAscending phase.sessions) phases → AreTranscripts phases rows
-    → ((n : ℕ) → names n phases ≡ true → has_session script n ≡ true) → some_reply is_disk_fault rows ≡ true → 0 < count_failed (rows_by (sessions_of script) phases rows)
+rows-count : (script : Script) (phases : List Phase) (rows : List (List (List Reply)))
+    → AllByRecursion (λ (phase : Phase). AreAscending phase.sessions) phases → AreTranscripts phases rows
+    → ((n : ℕ) → names n phases ≡ true → has_session script n ≡ true) → some_reply is_disk_fault rows ≡ true
+    → 0 < count_failed (rows_by (sessions_of script) phases rows)
 rows-count script [] [] ascends each known is = absurd cc
 rows-count script [] (row ∷ rows) ascends each known is = absurd each
 rows-count script (phase ∷ phases) [] ascends each known is = absurd each
@@ -148,7 +160,9 @@ rows-count script (phase ∷ phases) (row ∷ rows) ascends each known is =
     cons : count_failed (shown ∷ rest) ≡ sum_by (sum_by failures_told) shown + count_failed rest
     cons = sum_by-cons (λ row. sum_by (λ answers. sum_by failures_told answers) row) shown rest
 
-    by : (some_reply is_disk_fault rows ≡ true → 0 < count_failed rest) → (b : Bool) → list_any (list_any is_disk_fault) row ≡ b → (b || some_reply is_disk_fault rows) ≡ true → 0 < count_failed (shown ∷ rest)
+    by : (some_reply is_disk_fault rows ≡ true → 0 < count_failed rest) → (b : Bool)
+        → list_any (list_any is_disk_fault) row ≡ b → (b || some_reply is_disk_fault rows) ≡ true
+        → 0 < count_failed (shown ∷ rest)
     by further true fails some =
         let faulty = row-faulty 1 phase.sessions row ascends.0.rising ascends.0.most each.0 fails in
         let most = faulty.most in
@@ -157,7 +171,9 @@ rows-count script (phase ∷ phases) (row ∷ rows) ascends each known is =
         omega (arith, cons, here)
     by further false none some = omega (arith, cons, further some)
 
-pub faults-count : (script : Script) (transcripts : Transcripts) → IsOrdered script → AreTranscripts script.phases transcripts.phases → some_reply is_disk_fault transcripts.phases ≡ true → 0 < count_failed (reply_rows script transcripts)
+pub faults-count : (script : Script) (transcripts : Transcripts) → IsOrdered script
+    → AreTranscripts script.phases transcripts.phases → some_reply is_disk_fault transcripts.phases ≡ true
+    → 0 < count_failed (reply_rows script transcripts)
 faults-count script transcripts ordered each is =
     rows-count script script.phases transcripts.phases (recursion_from_All (λ (phase : Phase). AreAscending phase.sessions) script.phases ordered) each
     (λ n named. or-true (list_any (λ (line : ProcLine). nat_eq line.session n) script.proc) (names n script.phases) named) is
@@ -172,7 +188,8 @@ status_by true fault is = absurd (omega (arith, is))
 status_by false true is = refl
 status_by false false is = absurd (omega (arith, is))
 
-pub status-fault : (replies : List (List (List Reply))) → status_of replies ≡ 74 → some_reply is_disk_fault replies ≡ true
+pub status-fault : (replies : List (List (List Reply))) → status_of replies ≡ 74
+    → some_reply is_disk_fault replies ≡ true
 status-fault replies is = status_by (some_reply is_memory replies) (some_reply is_disk_fault replies) is
 
 status_none_by : (memory fault : Bool) → IsAnswered (status_with memory fault) → status_with memory fault ≡ 0

@@ -34,7 +34,8 @@ use Rattle.tool_single.specs.declared.answers.Stop.TheVariants as stops
 -- ---- from what came of the script on an open store
 
 module _ {D P : Type 0} (g : Ghosts D) (refused : P → ℕ) (rounds : ℕ) (mounted : List MountedFile) (script : Script) (core : Core D P) (played : Played D P) where
-  plays : IsOpened all.Reads all.IsBadAt no_files mounted → script ≡ gen_script rounds → IsPlayed formats g refused mounted script core played
+  plays : IsOpened all.Reads all.IsBadAt no_files mounted → script ≡ gen_script rounds
+      → IsPlayed formats g refused mounted script core played
       → ComesOut rounds played.transcripts played.closed.history.commits → PlaysRounds rounds
   plays opened same is out =
       let fair = at_some (IsFairScript formats mounted (commits_of is.story) script) played.transcripts out.replies out.is is.fair in
@@ -52,19 +53,28 @@ module _ {D P : Type 0} (g : Ghosts D) (refused : P → ℕ) (rounds : ℕ) (mou
 -- ---- to out and err
 
 module _ (status : ℕ) (out err : Change) where
-  pub generated-ends : (rounds : Rounds) (answer : Result code.Report Stop) → TellsGenerated rounds answer → Delivers (ending answer) status out err → EndsGenerated rounds status out err
-  generated-ends (Refuses number text) (Ok report) told delivers = inl (subst (λ (r : Report). Delivers r status out err) told delivers)
-  generated-ends (Refuses number text) (Err stop) told delivers = inr (subst (λ (s : Stop). Delivers (stopped s) status out err) told delivers)
+  pub generated-ends : (rounds : Rounds) (answer : Result code.Report Stop) → TellsGenerated rounds answer
+      → Delivers (ending answer) status out err → EndsGenerated rounds status out err
+  generated-ends (Refuses number text) (Ok report) told delivers =
+      inl (subst (λ (r : Report). Delivers r status out err) told delivers)
+  generated-ends (Refuses number text) (Err stop) told delivers =
+      inr (subst (λ (s : Stop). Delivers (stopped s) status out err) told delivers)
   generated-ends (Plays rounds) (Ok report) told delivers =
       let given = subst (λ (r : Report). Delivers r status out err) told.0 delivers in
       record { told = Summed told.1 given; prefix = put_front (summed rounds) status out err given }
   generated-ends (Plays rounds) (Err stop) told delivers =
       let given = subst (λ (s : Stop). Delivers (stopped s) status out err) told delivers in
-      record { told = Without given; prefix = front-none out.held_before out.held_now (summary rounds (tally_of rounds)) (put_front (warned 70 out_of_memory) status out err given) }
+      record {
+        told = Without given;
+        prefix = front-none out.held_before out.held_now (summary rounds (tally_of rounds)) (put_front (warned 70 out_of_memory) status out err given);
+      }
 
 -- only want of memory leaves it without an answer
-pub generated-stops : (rounds : Rounds) (answer : Result code.Report Stop) (stop : Stop) → TellsGenerated rounds answer → answer ≡ Err stop → stop ≡ stops.Memory
+pub generated-stops : (rounds : Rounds) (answer : Result code.Report Stop) (stop : Stop) → TellsGenerated rounds answer
+    → answer ≡ Err stop → stop ≡ stops.Memory
 generated-stops (Plays rounds) (Ok report) stop told is = absurd cc
-generated-stops (Plays rounds) (Err why) stop told is = subst (λ (r : Result code.Report Stop). TellsIf rounds (PlaysRounds rounds) r) is told
+generated-stops (Plays rounds) (Err why) stop told is =
+    subst (λ (r : Result code.Report Stop). TellsIf rounds (PlaysRounds rounds) r) is told
 generated-stops (Refuses status text) (Ok report) stop told is = absurd cc
-generated-stops (Refuses status text) (Err why) stop told is = subst (λ (r : Result code.Report Stop). TellsGenerated (Refuses status text) r) is told
+generated-stops (Refuses status text) (Err why) stop told is =
+    subst (λ (r : Result code.Report Stop). TellsGenerated (Refuses status text) r) is told

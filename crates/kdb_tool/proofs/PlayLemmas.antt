@@ -57,7 +57,8 @@ use Rattle.tool_single.specs.declared.answers.Stop.TheVariants as stops
 -- a count that rose later by so much rose since earlier by as much
 rises_since : (n a b c : ℕ) → a ≤ b → HasRisenBy n b c → HasRisenBy n a c
 rises_since n a b c le (inl rose) = inl (omega (arith, le, rose))
-rises_since n a b c le (inr at_top) = let later = at_top.later in inr (record { later = omega (arith, le, later); rose = risen_since a b c le at_top.rose; top = at_top.top })
+rises_since n a b c le (inr at_top) =
+    let later = at_top.later in inr (record { later = omega (arith, le, later); rose = risen_since a b c le at_top.rose; top = at_top.top })
 
 -- one that rose by something rose
 rose : (n before now : ℕ) → 0 < n → HasRisenBy n before now → HasRisen before now
@@ -70,7 +71,8 @@ rises-later n before now (inl by_so_much) = omega (arith, by_so_much)
 rises-later n before now (inr at_top) = at_top.later
 
 -- what is known of the replies, where there are some
-pub at_some : (P : Transcripts → Type 0) (o : Option Transcripts) (transcripts : Transcripts) → o ≡ Some transcripts → IfSome o P → P transcripts
+pub at_some : (P : Transcripts → Type 0) (o : Option Transcripts) (transcripts : Transcripts) → o ≡ Some transcripts
+    → IfSome o P → P transcripts
 at_some P o transcripts there holds = subst (λ (x : Option Transcripts). IfSome x P) there holds
 
 -- ---- on a calm disk
@@ -101,12 +103,15 @@ module _ {D P : Type 0} (g : Ghosts D) (refused : P → ℕ) (disk : D) (files :
 
   -- nothing was written where the opening had nothing to write and no set was begun
   untouched : BeginsNone is.story → HasNothingToWrite (g.seen disk) → OnlyReads g disk end
-  untouched begins_none none = subst (OnlyReads g disk) (sym (is.left_alone begins_none (has_opened.wrote ∙ ap has_any none.none) has_opened.fresh)) (has_opened.alone none)
+  untouched begins_none none =
+      subst (OnlyReads g disk) (sym (is.left_alone begins_none (has_opened.wrote ∙ ap has_any none.none) has_opened.fresh)) (has_opened.alone none)
 
   quiet_since : ¬ HasRisen (g.faults disk) (g.faults end) → ¬ HasRisen (g.faults mid) (g.faults end)
-  quiet_since still = λ rose. still (risen_since (g.faults disk) (g.faults mid) (g.faults end) has_opened.goes.later rose)
+  quiet_since still =
+      λ rose. still (risen_since (g.faults disk) (g.faults mid) (g.faults end) has_opened.goes.later rose)
 
-  plays : (transcripts : Transcripts) → played.transcripts ≡ Some transcripts → Plays g files doubt (refused core.patterns) (refused played.closed.patterns) script transcripts disk end
+  plays : (transcripts : Transcripts) → played.transcripts ≡ Some transcripts
+      → Plays g files doubt (refused core.patterns) (refused played.closed.patterns) script transcripts disk end
   plays transcripts there =
       let failures = at_some (λ t. failures_in is.story ≡ count_failed (reply_rows script t)) played.transcripts transcripts there is.failures in
       let refusals = at_some (λ t. refusals_in is.story ≡ count_refused (reply_rows script t)) played.transcripts transcripts there is.refusals in
@@ -125,7 +130,8 @@ module _ {D P : Type 0} (g : Ghosts D) (refused : P → ℕ) (disk : D) (files :
         within = has_opened.begun.within;
         last = handed.last;
         by_story = handed.by_story;
-        crash = only_both g disk mid end Found (Reached handed.last) (λ image. Found image ⊎ Reached handed.last image) (λ image only. inl only) (λ image reached. inr reached)
+        crash =
+            only_both g disk mid end Found (Reached handed.last) (λ image. Found image ⊎ Reached handed.last image) (λ image only. inl only) (λ image reached. inr reached)
             has_opened.goes.moment has_opened.meanwhile handed.any_moment;
         lasting = handed.now;
         shown = λ still. handed.shown (quiet_since still);
@@ -139,12 +145,15 @@ module _ {D P : Type 0} (g : Ghosts D) (refused : P → ℕ) (disk : D) (files :
   told_end = is.goes.tells ∙ (has_opened.goes.tells ∙ telling)
 
   still_first : is.story ≡ [] → handed.last ≡ first
-  still_first none = subst (λ (story : List Told). RunsBy formats (store_at mounted) (visible_keys mounted) first story handed.last) none handed.by_story
+  still_first none =
+      subst (λ (story : List Told). RunsBy formats (store_at mounted) (visible_keys mounted) first story handed.last) none handed.by_story
 
   begins_none : is.story ≡ [] → BeginsNone is.story
   begins_none none = record { commits = ap commits_of none; failures = ap failures_in none }
 
-  found_again : is.story ≡ [] → ¬ HasRisen (g.faults disk) (g.faults end) → IsCalm (g.seen end) (g.may_leave end) opened has_opened.begun.first → SameFiles (opened_files (g.seen end)) opened
+  found_again : is.story ≡ [] → ¬ HasRisen (g.faults disk) (g.faults end)
+      → IsCalm (g.seen end) (g.may_leave end) opened has_opened.begun.first
+      → SameFiles (opened_files (g.seen end)) opened
   found_again none still calm = by (open_list (g.seen disk)) refl
     where
       by : (list : List (List FileText)) → open_list (g.seen disk) ≡ list → SameFiles (opened_files (g.seen end)) opened
@@ -176,24 +185,34 @@ module _ {D P : Type 0} (g : Ghosts D) (refused : P → ℕ) (disk : D) (files :
             };
       }
 
-  works_by : (Answered : Answer → Type 0) (IsAsked : Script → Type 0) (answer : Result code.Report Stop) → IsAsked script → (o : Option Transcripts) → played.transcripts ≡ o
-      → AnswersBy mounted script played.closed.history.commits o answer → Works g files doubt (refused core.patterns) (refused played.closed.patterns) Answered IsAsked answer disk end
+  works_by : (Answered : Answer → Type 0) (IsAsked : Script → Type 0) (answer : Result code.Report Stop)
+      → IsAsked script → (o : Option Transcripts) → played.transcripts ≡ o
+      → AnswersBy mounted script played.closed.history.commits o answer
+      → Works g files doubt (refused core.patterns) (refused played.closed.patterns) Answered IsAsked answer disk end
   unfolding plays
   works_by Answered IsAsked answer asked (Some transcripts) there told = HasPlayed script asked (record {
     transcripts = transcripts;
     plays = plays transcripts there;
     told = subst (λ (history : List Commit). Tells (report_by script transcripts mounted history) answer) is.history told;
   })
-  works_by Answered IsAsked answer asked None there stopped = NotPlayed (subst (λ (r : Result code.Report Stop). Serve g files doubt Answered r disk end) (sym stopped) (unserved (is.none there)))
+  works_by Answered IsAsked answer asked None there stopped =
+      NotPlayed (subst (λ (r : Result code.Report Stop). Serve g files doubt Answered r disk end) (sym stopped) (unserved (is.none there)))
 
-  pub works : (Answered : Answer → Type 0) (IsAsked : Script → Type 0) (answer : Result code.Report Stop) → IsAsked script
-      → AnswersBy mounted script played.closed.history.commits played.transcripts answer → Works g files doubt (refused core.patterns) (refused played.closed.patterns) Answered IsAsked answer disk end
+  pub works : (Answered : Answer → Type 0) (IsAsked : Script → Type 0) (answer : Result code.Report Stop)
+      → IsAsked script
+      → AnswersBy mounted script played.closed.history.commits played.transcripts answer
+      → Works g files doubt (refused core.patterns) (refused played.closed.patterns) Answered IsAsked answer disk end
   works Answered IsAsked answer asked told = works_by Answered IsAsked answer asked played.transcripts refl told
 
 -- what came of an open store is what came of its disk
-pub works-ended : {D P : Type 0} (g : Ghosts D) (refused : P → ℕ) (disk : D) (files : Image) (doubt : Option (List FileText)) (script : Script) (mounted : List MountedFile) (core : Core D P) (ended : Ended D P) (before : ℕ)
-    → g.tells disk ≡ true → IsOpened all.Reads all.IsBadAt (opened_files (g.seen disk)) mounted → HasOpened g disk files doubt (table_files (store_at mounted)) core → HasEnded g refused mounted script core ended → refused core.patterns ≡ before
-    → (Answered : Answer → Type 0) (IsAsked : Script → Type 0) → IsAsked script → Works g files doubt before (refused ended.patterns) Answered IsAsked ended.answer disk ended.disk
+pub works-ended : {D P : Type 0} (g : Ghosts D) (refused : P → ℕ) (disk : D) (files : Image)
+    (doubt : Option (List FileText)) (script : Script) (mounted : List MountedFile) (core : Core D P)
+    (ended : Ended D P) (before : ℕ)
+    → g.tells disk ≡ true → IsOpened all.Reads all.IsBadAt (opened_files (g.seen disk)) mounted
+    → HasOpened g disk files doubt (table_files (store_at mounted)) core → HasEnded g refused mounted script core ended
+    → refused core.patterns ≡ before
+    → (Answered : Answer → Type 0) (IsAsked : Script → Type 0) → IsAsked script
+    → Works g files doubt before (refused ended.patterns) Answered IsAsked ended.answer disk ended.disk
 works-ended {D} {P} g refused disk files doubt script mounted core ended before telling is_opened has_opened ends same Answered IsAsked asked =
     let done = works g refused disk files doubt script mounted core ends.played telling is_opened has_opened ends.is Answered IsAsked ended.answer asked ends.told in
     subst (λ (d : D). Works g files doubt before (refused ended.patterns) Answered IsAsked ended.answer disk d) (sym ends.disk)
@@ -204,7 +223,9 @@ works-ended {D} {P} g refused disk files doubt script mounted core ended before 
 
 module _ {D P : Type 0} (g : Ghosts D) (refused : P → ℕ) (disk : D) (script : Script) (mounted : List MountedFile) (core : Core D P) (ended : Ended D P) (goes : GoesOn g disk core.journal.disk) (ends : HasEnded g refused mounted script core ended) where
   -- a set that failed is counted
-  failed : IsPlayable script → (transcripts : Transcripts) → ends.played.transcripts ≡ Some transcripts → (report_by script transcripts mounted ends.played.closed.history.commits).status ≡ 74 → HasRisen (g.faults disk) (g.faults ends.played.closed.disk)
+  failed : IsPlayable script → (transcripts : Transcripts) → ends.played.transcripts ≡ Some transcripts
+      → (report_by script transcripts mounted ends.played.closed.history.commits).status ≡ 74
+      → HasRisen (g.faults disk) (g.faults ends.played.closed.disk)
   failed playable transcripts there is =
       let fair = at_some (IsFairScript formats mounted (commits_of ends.is.story) script) ends.played.transcripts transcripts there ends.is.fair in
       let failures = at_some (λ t. failures_in ends.is.story ≡ count_failed (reply_rows script t)) ends.played.transcripts transcripts there ends.is.failures in
@@ -212,21 +233,27 @@ module _ {D P : Type 0} (g : Ghosts D) (refused : P → ℕ) (disk : D) (script 
       risen_since (g.faults disk) (g.faults core.journal.disk) (g.faults ends.played.closed.disk) goes.later
       (rose (failures_in ends.is.story) (g.faults core.journal.disk) (g.faults ends.played.closed.disk) (omega (arith, failures, some)) ends.is.failed)
 
-  pub reported-ended : IsPlayable script → IfOk ended.answer (λ report. IsReported (HasRisen (g.faults disk) (g.faults ended.disk)) (report_of report))
-  reported-ended playable = subst (λ (d : D). IfOk ended.answer (λ report. IsReported (HasRisen (g.faults disk) (g.faults d)) (report_of report))) (sym ends.disk) (by ends.played.transcripts refl ended.answer ends.told)
+  pub reported-ended : IsPlayable script
+      → IfOk ended.answer (λ report. IsReported (HasRisen (g.faults disk) (g.faults ended.disk)) (report_of report))
+  reported-ended playable =
+      subst (λ (d : D). IfOk ended.answer (λ report. IsReported (HasRisen (g.faults disk) (g.faults d)) (report_of report))) (sym ends.disk) (by ends.played.transcripts refl ended.answer ends.told)
     where
-      by : (o : Option Transcripts) → ends.played.transcripts ≡ o → (r : Result code.Report Stop) → AnswersBy mounted script ends.played.closed.history.commits o r
+      by : (o : Option Transcripts) → ends.played.transcripts ≡ o → (r : Result code.Report Stop)
+          → AnswersBy mounted script ends.played.closed.history.commits o r
           → IfOk r (λ report. IsReported (HasRisen (g.faults disk) (g.faults ends.played.closed.disk)) (report_of report))
-      by (Some transcripts) there (Ok report) told = OfReplies (ap (λ (made : Report). made.err) told) (λ is. failed playable transcripts there (sym (ap (λ (made : Report). made.status) told) ∙ is))
+      by (Some transcripts) there (Ok report) told =
+          OfReplies (ap (λ (made : Report). made.err) told) (λ is. failed playable transcripts there (sym (ap (λ (made : Report). made.status) told) ∙ is))
       by (Some transcripts) there (Err stop) told = tt
       by None there (Ok report) same = absurd cc
       by None there (Err stop) same = tt
 
   -- no answer is known but for want of memory
   pub stops-ended : (stop : Stop) → ended.answer ≡ Err stop → stop ≡ stops.Memory
-  stops-ended stop is = by ends.played.transcripts (subst (λ (r : Result code.Report Stop). AnswersBy mounted script ends.played.closed.history.commits ends.played.transcripts r) is ends.told)
+  stops-ended stop is =
+      by ends.played.transcripts (subst (λ (r : Result code.Report Stop). AnswersBy mounted script ends.played.closed.history.commits ends.played.transcripts r) is ends.told)
     where
-      by : (o : Option Transcripts) → AnswersBy mounted script ends.played.closed.history.commits o (Err stop) → stop ≡ stops.Memory
+      by : (o : Option Transcripts) → AnswersBy mounted script ends.played.closed.history.commits o (Err stop)
+          → stop ≡ stops.Memory
       by (Some transcripts) told = told
       by None same = cc
 
@@ -234,7 +261,8 @@ module _ {D P : Type 0} (g : Ghosts D) (refused : P → ℕ) (disk : D) (script 
   pub stores-none-ended : StoresNone g ended.answer disk ended.disk
   stores-none-ended = by ends.played.transcripts ended.answer ends.told
     where
-      by : (o : Option Transcripts) (r : Result code.Report Stop) → AnswersBy mounted script ends.played.closed.history.commits o r → StoresNone g r disk ended.disk
+      by : (o : Option Transcripts) (r : Result code.Report Stop)
+          → AnswersBy mounted script ends.played.closed.history.commits o r → StoresNone g r disk ended.disk
       by (Some transcripts) (Ok report) told = λ some own.
           let status = ap (λ (made : Report). made.status) told in
           absurd (some (status ∙ status-none transcripts.phases (subst IsAnswered status own)))
@@ -243,7 +271,8 @@ module _ {D P : Type 0} (g : Ghosts D) (refused : P → ℕ) (disk : D) (script 
       by None (Err stop) same = tt
 
   pub goes-ended : GoesOn g disk ended.disk
-  goes-ended = subst (GoesOn g disk) (sym ends.disk) (GoesOn-then g disk core.journal.disk ends.played.closed.disk goes ends.is.goes)
+  goes-ended =
+      subst (GoesOn g disk) (sym ends.disk) (GoesOn-then g disk core.journal.disk ends.played.closed.disk goes ends.is.goes)
 
   pub later-ended : refused core.patterns ≤ refused ended.patterns
   later-ended = subst (λ (p : P). refused core.patterns ≤ refused p) (sym ends.patterns)

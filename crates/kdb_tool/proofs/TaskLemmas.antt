@@ -28,39 +28,50 @@ why_in (Refuse why) = why
 pub no_play : (script : Script) (why : NoScript) → Play script ≡ Refuse why → ⊥
 no_play script why same = absurd cc
 
-refuses-script : (input : List ℕ) (why : NoScript) → IsTaskOf (taken input) (Refuse why) → RefusesScript input (tells (warning_of why))
+refuses-script : (input : List ℕ) (why : NoScript) → IsTaskOf (taken input) (Refuse why)
+    → RefusesScript input (tells (warning_of why))
 refuses-script input OptionsRefused is = absurd is
 refuses-script input TooLong is = unplayed.TooLong is refl
 refuses-script input (BadLine line) is = unplayed.BadLine is.0 line is.1 refl
 
 -- the answer
-pub refused-answers : (words : List (List ℕ)) (input : List ℕ) (bytes_of : List ℕ → List ℕ) (why : NoScript) → IsTask words input (Refuse why) → AnswersUnplayed words input bytes_of (tells (warning_of why))
-refused-answers words input bytes_of why (OfWords refused same) = WordsRefused refused (ap (λ (t : Task). tells (warning_of (why_in t))) same)
+pub refused-answers : (words : List (List ℕ)) (input : List ℕ) (bytes_of : List ℕ → List ℕ) (why : NoScript)
+    → IsTask words input (Refuse why) → AnswersUnplayed words input bytes_of (tells (warning_of why))
+refused-answers words input bytes_of why (OfWords refused same) =
+    WordsRefused refused (ap (λ (t : Task). tells (warning_of (why_in t))) same)
 refused-answers words input bytes_of why (OfInput takes is) = ScriptRefused takes (refuses-script input why is)
 
 -- what is told where the journal is refused
-pub refused-journal : (words : List (List ℕ)) (input line : List ℕ) (why : NoScript) → IsTask words input (Refuse why) → TellsOfJournal words input line (warning_of why)
-refused-journal words input line why (OfWords refused same) = ends.WordsRefused refused (ap (λ (t : Task). warning_of (why_in t)) same)
+pub refused-journal : (words : List (List ℕ)) (input line : List ℕ) (why : NoScript) → IsTask words input (Refuse why)
+    → TellsOfJournal words input line (warning_of why)
+refused-journal words input line why (OfWords refused same) =
+    ends.WordsRefused refused (ap (λ (t : Task). warning_of (why_in t)) same)
 refused-journal words input line why (OfInput takes is) = ends.ScriptRefused takes (refuses-script input why is)
 
 -- the store isn't asked then
-script-none : (input : List ℕ) (why : NoScript) (script : Script) → IsTaskOf (taken input) (Refuse why) → IsScript input script → ⊥
+script-none : (input : List ℕ) (why : NoScript) (script : Script) → IsTaskOf (taken input) (Refuse why)
+    → IsScript input script → ⊥
 script-none input OptionsRefused script is reads = is
 script-none input TooLong script is reads = let short = reads.short in absurd cc
-script-none input (BadLine line) script is reads = Leads-stops_nowhere Adds Adds-once [] (lines (taken input)) reads.reads.items line reads.reads.leads is.1
+script-none input (BadLine line) script is reads =
+    Leads-stops_nowhere Adds Adds-once [] (lines (taken input)) reads.reads.items line reads.reads.leads is.1
 
-pub refused-asks : (words : List (List ℕ)) (input : List ℕ) (why : NoScript) → IsTask words input (Refuse why) → AsksStore words input → ⊥
+pub refused-asks : (words : List (List ℕ)) (input : List ℕ) (why : NoScript) → IsTask words input (Refuse why)
+    → AsksStore words input → ⊥
 refused-asks words input why (OfWords refused same) asks = let takes = asks.1.takes in absurd cc
 refused-asks words input why (OfInput takes is) asks = script-none input why asks.0 is asks.1.is_script
 
 -- and what is asked for
-pub play-asks : (words : List (List ℕ)) (input : List ℕ) (script : Script) → IsTask words input (Play script) → AsksFor words input script
+pub play-asks : (words : List (List ℕ)) (input : List ℕ) (script : Script) → IsTask words input (Play script)
+    → AsksFor words input script
 play-asks words input script (OfWords refused same) = absurd cc
 play-asks words input script (OfInput takes is) = record { takes = takes; is_script = is }
 
 -- ---- the input
 
 -- how a call leaves the input that takes nothing more
-pub leaves-more : {S : Type 0} (g : Ghosts S) (takes : Bool) (now_done done : Type 0) (before now : S) → (now_done → done) → LeavesInput g takes done before now → LeavesInput g takes now_done before now
+pub leaves-more : {S : Type 0} (g : Ghosts S) (takes : Bool) (now_done done : Type 0) (before now : S)
+    → (now_done → done) → LeavesInput g takes done before now → LeavesInput g takes now_done before now
 leaves-more g false now_done done before now weaker leaves = leaves
-leaves-more g true now_done done before now weaker leaves = record { front = leaves.front; all = λ answered. leaves.all (weaker answered) }
+leaves-more g true now_done done before now weaker leaves =
+    record { front = leaves.front; all = λ answered. leaves.all (weaker answered) }

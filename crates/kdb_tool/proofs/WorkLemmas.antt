@@ -27,41 +27,62 @@ use Rattle.tool_single.specs.declared.answers.Stop.{Stop}
 use Rattle.tool_single.specs.declared.answers.Stop.TheVariants as stops
 
 -- a calm disk is at rest
-pub at-rest : {D : Type 0} (g : Ghosts D) (files : Image) (doubt : Option (List FileText)) (disk end : D) → (stored : Texts) × StaysCalm g files doubt stored disk end → IsAtRest g end
-at-rest g files doubt disk end stays = record { files = with_stored stays.0 (opened_files (g.seen disk)); doubt = stays.1.rest; calm = stays.1.calm }
+pub at-rest : {D : Type 0} (g : Ghosts D) (files : Image) (doubt : Option (List FileText)) (disk end : D)
+    → (stored : Texts) × StaysCalm g files doubt stored disk end → IsAtRest g end
+at-rest g files doubt disk end stays =
+    record { files = with_stored stays.0 (opened_files (g.seen disk)); doubt = stays.1.rest; calm = stays.1.calm }
 
 module _ {D : Type 0} (g : Ghosts D) (files : Image) (doubt : Option (List FileText)) (before now : ℕ) where
-  pub works-more : (P Q : Answer → Type 0) (IsAsked AsksToo : Script → Type 0) (answer : Result code.Report Stop) (disk end : D) → ((one : Answer) → P one → Q one) → ((script : Script) → IsAsked script → AsksToo script)
-      → Works g files doubt before now P IsAsked answer disk end → Works g files doubt before now Q AsksToo answer disk end
-  works-more P Q IsAsked AsksToo answer disk end follows more (NotPlayed serves) = NotPlayed (serve_weaker g files doubt P Q answer disk end follows serves)
-  works-more P Q IsAsked AsksToo answer disk end follows more (HasPlayed script asked told) = HasPlayed script (more script asked) told
+  pub works-more : (P Q : Answer → Type 0) (IsAsked AsksToo : Script → Type 0) (answer : Result code.Report Stop)
+      (disk end : D) → ((one : Answer) → P one → Q one) → ((script : Script) → IsAsked script → AsksToo script)
+      → Works g files doubt before now P IsAsked answer disk end
+      → Works g files doubt before now Q AsksToo answer disk end
+  works-more P Q IsAsked AsksToo answer disk end follows more (NotPlayed serves) =
+      NotPlayed (serve_weaker g files doubt P Q answer disk end follows serves)
+  works-more P Q IsAsked AsksToo answer disk end follows more (HasPlayed script asked told) =
+      HasPlayed script (more script asked) told
 
-  pub works-calm : (P : Answer → Type 0) (IsAsked : Script → Type 0) (answer : Result code.Report Stop) (disk end : D) → Works g files doubt before now P IsAsked answer disk end
-      → (answer ≡ Err stops.DiskFault → HasRisen (g.faults disk) (g.faults end)) → ¬ HasRisen (g.faults disk) (g.faults end) → IsAtRest g end
-  works-calm P IsAsked answer disk end (NotPlayed serves) cause still = at-rest g files doubt disk end (serve_calm g files doubt P answer disk end serves cause still)
-  works-calm P IsAsked answer disk end (HasPlayed script asked told) cause still = record { files = files_of told.plays.last; doubt = told.plays.last.doubt; calm = told.plays.calm still }
+  pub works-calm : (P : Answer → Type 0) (IsAsked : Script → Type 0) (answer : Result code.Report Stop) (disk end : D)
+      → Works g files doubt before now P IsAsked answer disk end
+      → (answer ≡ Err stops.DiskFault → HasRisen (g.faults disk) (g.faults end))
+      → ¬ HasRisen (g.faults disk) (g.faults end) → IsAtRest g end
+  works-calm P IsAsked answer disk end (NotPlayed serves) cause still =
+      at-rest g files doubt disk end (serve_calm g files doubt P answer disk end serves cause still)
+  works-calm P IsAsked answer disk end (HasPlayed script asked told) cause still =
+      record { files = files_of told.plays.last; doubt = told.plays.last.doubt; calm = told.plays.calm still }
 
 -- a journal is told where a script was asked for
-pub journal-asked : (words : List (List ℕ)) (input line : List ℕ) (script : Script) (answer : Result code.Report Stop) → AsksFor words input script → IfOk answer (λ report. report_of report ≡ warned 5 line)
+pub journal-asked : (words : List (List ℕ)) (input line : List ℕ) (script : Script) (answer : Result code.Report Stop)
+    → AsksFor words input script → IfOk answer (λ report. report_of report ≡ warned 5 line)
     → IfOk answer (λ report. TellsOfJournal words input line (report_of report))
 journal-asked words input line script (Ok report) asks told = JournalRefused script asks told
 journal-asked words input line script (Err stop) asks told = tt
 
 -- ---- what is told without the store
 
-pub made-tells : {E : Type 0} (wanted : Report) (made : Result code.Report E) (answer : Result code.Report Stop) → answer ≡ or_memory made → IfOk made (λ report. report_of report ≡ wanted) → Tells wanted answer
+pub made-tells : {E : Type 0} (wanted : Report) (made : Result code.Report E) (answer : Result code.Report Stop)
+    → answer ≡ or_memory made → IfOk made (λ report. report_of report ≡ wanted) → Tells wanted answer
 made-tells wanted (Ok report) answer same told = subst (Tells wanted) (sym same) told
 made-tells wanted (Err why) answer same told = subst (Tells wanted) (sym same) refl
 
-pub made-is : {E : Type 0} (P : Report → Type 0) (wanted : Report) (made : Result code.Report E) (answer : Result code.Report Stop) → answer ≡ or_memory made → IfOk made (λ report. report_of report ≡ wanted) → P wanted → IfOk answer (λ report. P (report_of report))
-made-is P wanted (Ok report) answer same told holds = subst (λ (r : Result code.Report Stop). IfOk r (λ report. P (report_of report))) (sym same) (subst P (sym told) holds)
-made-is P wanted (Err why) answer same told holds = subst (λ (r : Result code.Report Stop). IfOk r (λ report. P (report_of report))) (sym same) tt
+pub made-is : {E : Type 0} (P : Report → Type 0) (wanted : Report) (made : Result code.Report E)
+    (answer : Result code.Report Stop) → answer ≡ or_memory made → IfOk made (λ report. report_of report ≡ wanted)
+    → P wanted → IfOk answer (λ report. P (report_of report))
+made-is P wanted (Ok report) answer same told holds =
+    subst (λ (r : Result code.Report Stop). IfOk r (λ report. P (report_of report))) (sym same) (subst P (sym told) holds)
+made-is P wanted (Err why) answer same told holds =
+    subst (λ (r : Result code.Report Stop). IfOk r (λ report. P (report_of report))) (sym same) tt
 
-pub made-reported : {E : Type 0} (failed : Type 0) (made : Result code.Report E) (answer : Result code.Report Stop) → answer ≡ or_memory made → IfOk made (λ report. IsAnswered report.status) → IfOk answer (λ report. IsReported failed (report_of report))
-made-reported failed (Ok report) answer same own = subst (λ (r : Result code.Report Stop). IfOk r (λ report. IsReported failed (report_of report))) (sym same) (Own own)
-made-reported failed (Err why) answer same own = subst (λ (r : Result code.Report Stop). IfOk r (λ report. IsReported failed (report_of report))) (sym same) tt
+pub made-reported : {E : Type 0} (failed : Type 0) (made : Result code.Report E) (answer : Result code.Report Stop)
+    → answer ≡ or_memory made → IfOk made (λ report. IsAnswered report.status)
+    → IfOk answer (λ report. IsReported failed (report_of report))
+made-reported failed (Ok report) answer same own =
+    subst (λ (r : Result code.Report Stop). IfOk r (λ report. IsReported failed (report_of report))) (sym same) (Own own)
+made-reported failed (Err why) answer same own =
+    subst (λ (r : Result code.Report Stop). IfOk r (λ report. IsReported failed (report_of report))) (sym same) tt
 
-pub made-not_of_disk : {E : Type 0} (made : Result code.Report E) (answer : Result code.Report Stop) → answer ≡ or_memory made → IfOk made (λ report. IsAnswered report.status) → IsOfDisk answer → ⊥
+pub made-not_of_disk : {E : Type 0} (made : Result code.Report E) (answer : Result code.Report Stop)
+    → answer ≡ or_memory made → IfOk made (λ report. IsAnswered report.status) → IsOfDisk answer → ⊥
 made-not_of_disk (Ok report) answer same own is = own.1 (subst IsOfDisk same is)
 made-not_of_disk (Err why) answer same own is = subst IsOfDisk same is
 
@@ -78,6 +99,7 @@ stop-is stop other same = cc
 pub handed-reads : {D : Type 0} (g : Ghosts D) (disk end : D) → end ≡ disk → OnlyReads g disk end
 handed-reads g disk end same = subst (OnlyReads g disk) (sym same) (OnlyReads-none g disk)
 
-pub reads-none : {D : Type 0} (g : Ghosts D) (answer : Result code.Report Stop) (before after : D) → OnlyReads g before after → StoresNone g answer before after
+pub reads-none : {D : Type 0} (g : Ghosts D) (answer : Result code.Report Stop) (before after : D)
+    → OnlyReads g before after → StoresNone g answer before after
 reads-none g (Ok report) before after reads = λ some answered. reads
 reads-none g (Err stop) before after reads = tt

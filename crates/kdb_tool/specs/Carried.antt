@@ -31,14 +31,19 @@ use Rattle.kdb_tool.specs.Working.{Works}
 -- a script was played on the store of a disk. What is said of its files is said of a disk that tells, and mostly of one
 -- that is calm
 pub record PlaysScript {D P : Type 0} (d : disks.Ghosts D) (p : matchers.Ghosts P) (script : Script) (disk : D) (patterns : P) (ended : Ended D P) : Type 0 where
-  pub worked : d.tells disk ≡ true → (files : Image) (doubt : Option (List FileText)) → IsCalm (d.seen disk) (d.may_leave disk) files doubt
+  pub worked : d.tells disk ≡ true → (files : Image) (doubt : Option (List FileText))
+      → IsCalm (d.seen disk) (d.may_leave disk) files doubt
       → Works d files doubt (p.refusals patterns) (p.refusals ended.patterns) (IsUnopened (opened_files (d.seen disk))) (λ played. played ≡ script) ended.answer disk ended.disk
   pub reported : IfOk ended.answer (λ report. IsReported (HasRisen (d.faults disk) (d.faults ended.disk)) (report_of report))
   pub unstored : d.tells disk ≡ true → HasNothingToWrite (d.seen disk) → StoresNone d ended.answer disk ended.disk
-  pub broken : d.tells disk ≡ true → (at : ℕ) → bad_place (d.seen disk) ≡ Some at → IfOk ended.answer (λ report. report_of report ≡ warned 5 (bad_journal at))
-  pub unknown : d.tells disk ≡ true → (version : ℕ) → unknown_version (d.seen disk) ≡ Some version → IfOk ended.answer (λ report. report_of report ≡ warned 5 (unknown_journal version))
-  pub broken_stays : d.tells disk ≡ true → (fault : JournalFault) → found_in (d.seen disk) ≡ Err fault → IsKept (d.seen disk) → OnlyReads d disk ended.disk
-  pub broken_kept : d.tells disk ≡ true → (fault : JournalFault) → found_in (d.seen disk) ≡ Err fault → ¬ IsKept (d.seen disk) → IsOk ended.answer → LeavesRetired d disk ended.disk
+  pub broken : d.tells disk ≡ true → (at : ℕ) → bad_place (d.seen disk) ≡ Some at
+      → IfOk ended.answer (λ report. report_of report ≡ warned 5 (bad_journal at))
+  pub unknown : d.tells disk ≡ true → (version : ℕ) → unknown_version (d.seen disk) ≡ Some version
+      → IfOk ended.answer (λ report. report_of report ≡ warned 5 (unknown_journal version))
+  pub broken_stays : d.tells disk ≡ true → (fault : JournalFault) → found_in (d.seen disk) ≡ Err fault
+      → IsKept (d.seen disk) → OnlyReads d disk ended.disk
+  pub broken_kept : d.tells disk ≡ true → (fault : JournalFault) → found_in (d.seen disk) ≡ Err fault
+      → ¬ IsKept (d.seen disk) → IsOk ended.answer → LeavesRetired d disk ended.disk
   pub cause : ended.answer ≡ Err stops.DiskFault → HasRisen (d.faults disk) (d.faults ended.disk)
   pub input : ended.answer ≢ Err stops.ReadFault
   pub goes : GoesOn d disk ended.disk
@@ -47,23 +52,33 @@ pub record PlaysScript {D P : Type 0} (d : disks.Ghosts D) (p : matchers.Ghosts 
 -- a batch was carried out by its words and its input: a script was played, or what there is in its place was told
 -- without the store
 pub record CarriesOutBatch {S D P : Type 0} (s : sources.Ghosts S) (d : disks.Ghosts D) (p : matchers.Ghosts P) (line : List (List ℕ)) (source source_now : S) (disk : D) (patterns : P) (ended : Ended D P) : Type 0 where
-  pub worked : d.tells disk ≡ true → (files : Image) (doubt : Option (List FileText)) → IsCalm (d.seen disk) (d.may_leave disk) files doubt → (given : List ℕ) → IsGiven (takes_words line) (s.left source) given
+  pub worked : d.tells disk ≡ true → (files : Image) (doubt : Option (List FileText))
+      → IsCalm (d.seen disk) (d.may_leave disk) files doubt → (given : List ℕ)
+      → IsGiven (takes_words line) (s.left source) given
       → Works d files doubt (p.refusals patterns) (p.refusals ended.patterns) (AnswersUnplayed line given (opened_files (d.seen disk))) (AsksFor line given) ended.answer disk ended.disk
-  pub calm : d.tells disk ≡ true → (files : Image) (doubt : Option (List FileText)) → IsCalm (d.seen disk) (d.may_leave disk) files doubt → ¬ HasRisen (d.faults disk) (d.faults ended.disk) → IsAtRest d ended.disk
+  pub calm : d.tells disk ≡ true → (files : Image) (doubt : Option (List FileText))
+      → IsCalm (d.seen disk) (d.may_leave disk) files doubt → ¬ HasRisen (d.faults disk) (d.faults ended.disk)
+      → IsAtRest d ended.disk
   pub words : takes_words line ≡ false → Tells (warned 1 options_refused) ended.answer
   pub reported : IfOk ended.answer (λ report. IsReported (HasRisen (d.faults disk) (d.faults ended.disk)) (report_of report))
   pub unstored : d.tells disk ≡ true → HasNothingToWrite (d.seen disk) → StoresNone d ended.answer disk ended.disk
-  pub broken : d.tells disk ≡ true → (at : ℕ) → bad_place (d.seen disk) ≡ Some at → (given : List ℕ) → IsGiven (takes_words line) (s.left source) given
+  pub broken : d.tells disk ≡ true → (at : ℕ) → bad_place (d.seen disk) ≡ Some at → (given : List ℕ)
+      → IsGiven (takes_words line) (s.left source) given
       → IfOk ended.answer (λ report. TellsOfJournal line given (bad_journal at) (report_of report))
-  pub unknown : d.tells disk ≡ true → (version : ℕ) → unknown_version (d.seen disk) ≡ Some version → (given : List ℕ) → IsGiven (takes_words line) (s.left source) given
+  pub unknown : d.tells disk ≡ true → (version : ℕ) → unknown_version (d.seen disk) ≡ Some version → (given : List ℕ)
+      → IsGiven (takes_words line) (s.left source) given
       → IfOk ended.answer (λ report. TellsOfJournal line given (unknown_journal version) (report_of report))
-  pub broken_stays : d.tells disk ≡ true → (fault : JournalFault) → found_in (d.seen disk) ≡ Err fault → IsKept (d.seen disk) → OnlyReads d disk ended.disk
-  pub broken_kept : d.tells disk ≡ true → (fault : JournalFault) → found_in (d.seen disk) ≡ Err fault → ¬ IsKept (d.seen disk) → (given : List ℕ) → IsGiven (takes_words line) (s.left source) given
+  pub broken_stays : d.tells disk ≡ true → (fault : JournalFault) → found_in (d.seen disk) ≡ Err fault
+      → IsKept (d.seen disk) → OnlyReads d disk ended.disk
+  pub broken_kept : d.tells disk ≡ true → (fault : JournalFault) → found_in (d.seen disk) ≡ Err fault
+      → ¬ IsKept (d.seen disk) → (given : List ℕ) → IsGiven (takes_words line) (s.left source) given
       → AsksStore line given → IsOk ended.answer → LeavesRetired d disk ended.disk
   pub asked : IsOfDisk ended.answer → HasAsked s line source source_now
-  pub unasked : (given : List ℕ) → IsGiven (takes_words line) (s.left source) given → (AsksStore line given → ⊥) → (ended.disk ≡ disk) × (ended.patterns ≡ patterns)
+  pub unasked : (given : List ℕ) → IsGiven (takes_words line) (s.left source) given → (AsksStore line given → ⊥)
+      → (ended.disk ≡ disk) × (ended.patterns ≡ patterns)
   pub input : LeavesInput s (takes_words line) (IsOk ended.answer) source source_now
-  pub read : ended.answer ≡ Err stops.ReadFault → LosesInput (FailsToRead (takes_words line) (s.faults source) (s.faults source_now)) disk ended.disk patterns ended.patterns
+  pub read : ended.answer ≡ Err stops.ReadFault
+      → LosesInput (FailsToRead (takes_words line) (s.faults source) (s.faults source_now)) disk ended.disk patterns ended.patterns
   pub cause : ended.answer ≡ Err stops.DiskFault → HasRisen (d.faults disk) (d.faults ended.disk)
   pub goes : GoesOn d disk ended.disk
   pub later : s.faults source ≤ s.faults source_now

@@ -21,19 +21,23 @@ EndsByWords words status out err = takes_words words ≡ false → EndsRefused (
 
 -- want of memory is told on err, with nothing on out, or is that of a step, among the replies
 abbrev pub EndsWithoutMemory : ℕ → Change → Change → Type 0
-EndsWithoutMemory status out err = status ≡ 70 → Gives (warned 70 out_of_memory) status out err ⊎ GivesText 70 status out err
+EndsWithoutMemory status out err =
+    status ≡ 70 → Gives (warned 70 out_of_memory) status out err ⊎ GivesText 70 status out err
 
 -- a fault has its cause in this call, or is that of a set, among the replies
 abbrev pub EndsInFault : Type 0 → Type 0 → ℕ → Change → Change → Type 0
-EndsInFault disk_failed input_failed status out err = status ≡ 74 → FaultCause disk_failed input_failed status out err ⊎ (disk_failed × GivesText 74 status out err)
+EndsInFault disk_failed input_failed status out err =
+    status ≡ 74 → FaultCause disk_failed input_failed status out err ⊎ (disk_failed × GivesText 74 status out err)
 
 -- what is told where the store isn't opened for its journal, by the line that refuses it: a script that is refused is
 -- told before that
 pub data TellsOfJournal (words : List (List ℕ)) (input line : List ℕ) (report : Report) : Type 0 where
   WordsRefused : takes_words words ≡ false → report ≡ warned 1 options_refused → TellsOfJournal words input line report
   ScriptRefused : takes_words words ≡ true → RefusesScript input (tells report) → TellsOfJournal words input line report
-  JournalRefused : (script : Script) → AsksFor words input script → report ≡ warned 5 line → TellsOfJournal words input line report
+  JournalRefused : (script : Script) → AsksFor words input script → report ≡ warned 5 line
+      → TellsOfJournal words input line report
 
 -- a run that ends neither in want of memory nor in a fault ends so, where the journal is refused
 abbrev pub EndsByJournal : List (List ℕ) → (input line : List ℕ) → ℕ → Change → Change → Type 0
-EndsByJournal words input line status out err = IsAnswered status → (report : Report) × TellsOfJournal words input line report × Gives report status out err
+EndsByJournal words input line status out err =
+    IsAnswered status → (report : Report) × TellsOfJournal words input line report × Gives report status out err

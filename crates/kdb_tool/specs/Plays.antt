@@ -61,7 +61,8 @@ pub record Plays {D : Type 0} (g : Ghosts D) (files : Image) (doubt : Option (Li
   pub crash : LeavesOnly g disk end (λ image. HasOnly (IsEither files doubt) image ⊎ IsReached last.files last.commits last.begun image)
   pub lasting : EveryImage (g.may_leave end) (HasOnly (IsEither (files_of last) last.doubt))
   pub shown : ¬ HasRisen (g.faults disk) (g.faults end) → SameFiles (g.seen end) (files_of last)
-  pub calm : ¬ HasRisen (g.faults disk) (g.faults end) → IsCalm (g.seen end) (g.may_leave end) (files_of last) last.doubt
+  pub calm : ¬ HasRisen (g.faults disk) (g.faults end)
+      → IsCalm (g.seen end) (g.may_leave end) (files_of last) last.doubt
   pub untouched : BeginsNone story → HasNothingToWrite (g.seen disk) → OnlyReads g disk end
 
 -- what a batch tells of its sessions, with the mounts and the numbers of the sessions: the worst of its replies as the
@@ -75,4 +76,5 @@ report_with mounts sessions script transcripts history = record {
 
 -- with those of the mounted files and of the script
 abbrev pub report_by : Script → Transcripts → List MountedFile → List Commit → Report
-report_by script transcripts mounted history = report_with (over (λ file. file.mount) mounted) (sessions_of script) script transcripts history
+report_by script transcripts mounted history =
+    report_with (over (λ file. file.mount) mounted) (sessions_of script) script transcripts history

@@ -30,7 +30,8 @@ pub record EndsRounds (rounds : ℕ) (status : ℕ) (out err : Change) : Type 0 
 -- words that are refused decide alone: their line is told, or memory was wanting for it
 abbrev pub EndsGenerated : Rounds → ℕ → Change → Change → Type 0
 EndsGenerated (Plays rounds) status out err = EndsRounds rounds status out err
-EndsGenerated (Refuses code text) status out err = Delivers (warned code text) status out err ⊎ Delivers (warned 70 out_of_memory) status out err
+EndsGenerated (Refuses code text) status out err =
+    Delivers (warned code text) status out err ⊎ Delivers (warned 70 out_of_memory) status out err
 
 -- the run of a generated script, on a disk of its own: it has none that was handed in, and no input
 pub record RunsGenerated {K E P : Type 0} (k : sinks.Ghosts K) (e : sinks.Ghosts E) (p : matchers.Ghosts P) (words : List (List ℕ)) (out out_now : K) (err err_now : E) (patterns patterns_now : P) (status : ℕ) : Type 0 where
@@ -40,7 +41,8 @@ pub record RunsGenerated {K E P : Type 0} (k : sinks.Ghosts K) (e : sinks.Ghosts
   pub memory : EndsWithoutMemory status (change_of k out out_now) (change_of e err err_now)
   pub fault : EndsInFault ⊥ ⊥ status (change_of k out out_now) (change_of e err err_now)
   -- so without a fault the status isn't that of one
-  pub complete : (HasRisen (k.faults out) (k.faults out_now) → ⊥) → (HasRisen (e.faults err) (e.faults err_now) → ⊥) → status ≢ 74
+  pub complete : (HasRisen (k.faults out) (k.faults out_now) → ⊥) → (HasRisen (e.faults err) (e.faults err_now) → ⊥)
+      → status ≢ 74
   -- no count falls
   pub later_out : k.faults out ≤ k.faults out_now
   pub later_err : e.faults err ≤ e.faults err_now

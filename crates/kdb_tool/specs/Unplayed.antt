@@ -16,7 +16,8 @@ use Rattle.kdb_tool.specs.Scripts.{AsksFor, taken, takes_words}
 -- meaning
 pub data RefusesScript (input : List ℕ) (answer : Answer) : Type 0 where
   TooLong : script.is_too_long (taken input) ≡ true → answer ≡ refused 5 script_too_long → RefusesScript input answer
-  BadLine : script.is_too_long (taken input) ≡ false → (line : ℕ) → script.IsBadAt (taken input) line → answer ≡ refused 5 (bad_line line) → RefusesScript input answer
+  BadLine : script.is_too_long (taken input) ≡ false → (line : ℕ) → script.IsBadAt (taken input) line
+      → answer ≡ refused 5 (bad_line line) → RefusesScript input answer
 
 -- the answer where the files open no store
 pub record IsUnopened (bytes_of : List ℕ → List ℕ) (answer : Answer) : Type 0 where
@@ -26,6 +27,8 @@ pub record IsUnopened (bytes_of : List ℕ → List ℕ) (answer : Answer) : Typ
 
 -- the answer where no session takes a step, with the words, the input, and the bytes of the files
 pub data AnswersUnplayed (words : List (List ℕ)) (input : List ℕ) (bytes_of : List ℕ → List ℕ) (answer : Answer) : Type 0 where
-  WordsRefused : takes_words words ≡ false → answer ≡ refused 1 options_refused → AnswersUnplayed words input bytes_of answer
+  WordsRefused : takes_words words ≡ false → answer ≡ refused 1 options_refused
+      → AnswersUnplayed words input bytes_of answer
   ScriptRefused : takes_words words ≡ true → RefusesScript input answer → AnswersUnplayed words input bytes_of answer
-  NotOpened : (script : Script) → AsksFor words input script → IsUnopened bytes_of answer → AnswersUnplayed words input bytes_of answer
+  NotOpened : (script : Script) → AsksFor words input script → IsUnopened bytes_of answer
+      → AnswersUnplayed words input bytes_of answer

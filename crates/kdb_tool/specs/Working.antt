@@ -26,7 +26,8 @@ use Rattle.tool_single.specs.declared.answers.Stop.TheVariants as stops
 -- the answer by the replies of the sessions: they are told, or memory was wanting for that; or it was wanting before
 -- the first step
 abbrev pub AnswersWith : List Mount → List ℕ → Script → List Commit → Option Transcripts → Result code.Report Stop → Type 0
-AnswersWith mounts sessions script history (Some transcripts) answer = Tells (report_with mounts sessions script transcripts history) answer
+AnswersWith mounts sessions script history (Some transcripts) answer =
+    Tells (report_with mounts sessions script transcripts history) answer
 AnswersWith mounts sessions script history None answer = answer ≡ Err stops.Memory
 
 -- with the mounts of files and the sessions of the script
@@ -49,5 +50,8 @@ pub record PlaysTold {D : Type 0} (g : Ghosts D) (files : Image) (doubt : Option
 
 -- no session took a step, and the answer is one of some; or all took those of a script that was asked for
 pub data Works {D : Type 0} (g : Ghosts D) (files : Image) (doubt : Option (List FileText)) (refusals_before refusals_now : ℕ) (Answered : Answer → Type 0) (IsAsked : Script → Type 0) (answer : Result code.Report Stop) (disk end : D) : Type 0 where
-  NotPlayed : Serve g files doubt Answered answer disk end → Works g files doubt refusals_before refusals_now Answered IsAsked answer disk end
-  HasPlayed : (script : Script) → IsAsked script → PlaysTold g files doubt refusals_before refusals_now script answer disk end → Works g files doubt refusals_before refusals_now Answered IsAsked answer disk end
+  NotPlayed : Serve g files doubt Answered answer disk end
+      → Works g files doubt refusals_before refusals_now Answered IsAsked answer disk end
+  HasPlayed : (script : Script) → IsAsked script
+      → PlaysTold g files doubt refusals_before refusals_now script answer disk end
+      → Works g files doubt refusals_before refusals_now Answered IsAsked answer disk end

@@ -147,7 +147,8 @@ fn play_on_store<
     requires rounds { ArePlayable rounds }
     requires script { script.now ≡ gen_script rounds }
     requires open { IsOpen plan core }
-    ensures told { IsOpened all.Reads all.IsBadAt no_files plan.mounted → TellsIf rounds (PlaysRounds rounds) result.answer }
+    ensures told { IsOpened all.Reads all.IsBadAt no_files plan.mounted
+        → TellsIf rounds (PlaysRounds rounds) result.answer }
     ensures own { IfOk result.answer (λ report. IsAnswered report.status) }
     ensures later { P.refusals core.patterns ≤ P.refusals result.patterns }
 {

@@ -38,11 +38,14 @@ pub enum Task {
 
 /// Reads the words, and then the input.
 pub fn read_task<S: Source>(alloc: Global, words: &[Text], input: &mut S) -> Result<Task, Stop>
-    ensures told { (given : List ℕ) → IsGiven (takes_words words.now) (S.left input.old) given → IfOk result (IsTask words.now given) }
-    ensures words { takes_words words.now ≡ false → MatchResult result (λ task. task ≡ Task.Refuse NoScript.OptionsRefused) (λ stop. stop ≡ OutOfMemory) }
+    ensures told { (given : List ℕ) → IsGiven (takes_words words.now) (S.left input.old) given
+        → IfOk result (IsTask words.now given) }
+    ensures words { takes_words words.now ≡ false
+        → MatchResult result (λ task. task ≡ Task.Refuse NoScript.OptionsRefused) (λ stop. stop ≡ OutOfMemory) }
     ensures playable { IfOk result CanBePlayed }
     ensures input { LeavesInput S.Source (takes_words words.now) (IsOk result) input.old input.new }
-    ensures read { result ≡ Err Stop.ReadFault → FailsToRead (takes_words words.now) (S.faults input.old) (S.faults input.new) }
+    ensures read { result ≡ Err Stop.ReadFault
+        → FailsToRead (takes_words words.now) (S.faults input.old) (S.faults input.new) }
     ensures own { result ≢ Err Stop.DiskFault }
     ensures later { S.faults input.old ≤ S.faults input.new }
 {
@@ -68,7 +71,8 @@ fn read_input<S: Source>(alloc: Global, input: &mut S) -> Result<Task, Stop>
     ensures told { (bytes : List ℕ) → S.left input.old ≡ Some bytes → IfOk result (IsTaskOf (taken bytes)) }
     ensures playable { IfOk result CanBePlayed }
     ensures front { (bytes : List ℕ) → S.left input.old ≡ Some bytes → TakesFront most_taken bytes (S.left input.new) }
-    ensures all { (bytes : List ℕ) → S.left input.old ≡ Some bytes → OnOk result (TakesAll most_taken bytes (S.left input.new)) }
+    ensures all { (bytes : List ℕ) → S.left input.old ≡ Some bytes
+        → OnOk result (TakesAll most_taken bytes (S.left input.new)) }
     ensures cause { result ≡ Err Stop.ReadFault → HasRisen (S.faults input.old) (S.faults input.new) }
     ensures own { result ≢ Err Stop.DiskFault }
     ensures later { S.faults input.old ≤ S.faults input.new }

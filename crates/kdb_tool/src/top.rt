@@ -38,9 +38,12 @@ pub fn run<
     patterns: P,
     gate: &G,
 ) -> (Status, D, P)
-    ensures single { is_batch words.now ≡ false → is_gen words.now ≡ false → RunsOne S.Source K.Sink E.Sink D.Disk P.Patterns words.now input.old input.new out.old out.new err.old err.new disk result.1 patterns result.2 result.0 }
-    ensures batch { is_batch words.now ≡ true → RunsBatch S.Source K.Sink E.Sink D.Disk P.Patterns words.now input.old input.new out.old out.new err.old err.new disk result.1 patterns result.2 result.0 }
-    ensures generated { is_gen words.now ≡ true → RunsGenerated K.Sink E.Sink P.Patterns words.now out.old out.new err.old err.new patterns result.2 result.0 }
+    ensures single { is_batch words.now ≡ false → is_gen words.now ≡ false
+        → RunsOne S.Source K.Sink E.Sink D.Disk P.Patterns words.now input.old input.new out.old out.new err.old err.new disk result.1 patterns result.2 result.0 }
+    ensures batch { is_batch words.now ≡ true
+        → RunsBatch S.Source K.Sink E.Sink D.Disk P.Patterns words.now input.old input.new out.old out.new err.old err.new disk result.1 patterns result.2 result.0 }
+    ensures generated { is_gen words.now ≡ true
+        → RunsGenerated K.Sink E.Sink P.Patterns words.now out.old out.new err.old err.new patterns result.2 result.0 }
     ensures untouched { is_gen words.now ≡ true → (input.new ≡ input.old) × (result.1 ≡ disk) }
 {
     if is_batch(words) {

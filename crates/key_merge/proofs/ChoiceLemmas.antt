@@ -28,16 +28,20 @@ other x y apart = by (is_same_entry x y) refl
 
 -- by the three tests
 abbrev chosen : (our-their our-base their-base : Bool) → choices.Choice
-chosen our-their our-base their-base = cond our-their choice.Our (cond our-base choice.Their (cond their-base choice.Our choice.Conflict))
+chosen our-their our-base their-base =
+    cond our-their choice.Our (cond our-base choice.Their (cond their-base choice.Our choice.Conflict))
 
 pub choice_of-alike : (base both : Option Entry) → choice_of base both both ≡ choice.Our
 choice_of-alike base both = ap (λ b. chosen b (is_same_entry both base) (is_same_entry both base)) (same both)
 
 pub choice_of-their : (base their : Option Entry) → their ≢ base → choice_of base base their ≡ choice.Their
-choice_of-their base their apart = λ i. chosen (other base their (λ e. apart (sym e)) i) (same base i) (is_same_entry their base)
+choice_of-their base their apart =
+    λ i. chosen (other base their (λ e. apart (sym e)) i) (same base i) (is_same_entry their base)
 
 pub choice_of-our : (base our : Option Entry) → our ≢ base → choice_of base our base ≡ choice.Our
 choice_of-our base our apart = λ i. chosen (other our base apart i) (other our base apart i) (same base i)
 
-pub choice_of-conflict : (base our their : Option Entry) → our ≢ base → their ≢ base → our ≢ their → choice_of base our their ≡ choice.Conflict
-choice_of-conflict base our their ours theirs apart = λ i. chosen (other our their apart i) (other our base ours i) (other their base theirs i)
+pub choice_of-conflict : (base our their : Option Entry) → our ≢ base → their ≢ base → our ≢ their
+    → choice_of base our their ≡ choice.Conflict
+choice_of-conflict base our their ours theirs apart =
+    λ i. chosen (other our their apart i) (other our base ours i) (other their base theirs i)

@@ -21,14 +21,16 @@ use Rattle.key_merge.proofs.LowestLemmas.{IsAtMost}
 pub record IsTaken (name : Name) (ahead : List (Name × Entry)) : Type 0 where
   pub entry : entry_at name ahead ≡ find name_cmp name ahead
   pub gone : find name_cmp name (behind name ahead) ≡ None
-  pub others : (q : Name) → eq_by_cmp name_cmp q name ≡ false → find name_cmp q (behind name ahead) ≡ find name_cmp q ahead
+  pub others : (q : Name) → eq_by_cmp name_cmp q name ≡ false
+      → find name_cmp q (behind name ahead) ≡ find name_cmp q ahead
   pub sorted : T (is_sorted name_cmp (behind name ahead))
   pub above : T (below_all name_cmp name (behind name ahead))
   pub still : (q : Name) → T (below_all name_cmp q ahead) → T (below_all name_cmp q (behind name ahead))
   pub no_longer : length (behind name ahead) ≤ length ahead
 
 -- it stands first
-begins : (name : Name) (key : Name × Entry) (rest : List (Name × Entry)) → T (is_sorted name_cmp (key ∷ rest)) → name ≡ key.0 → IsTaken name (key ∷ rest)
+begins : (name : Name) (key : Name × Entry) (rest : List (Name × Entry)) → T (is_sorted name_cmp (key ∷ rest))
+    → name ≡ key.0 → IsTaken name (key ∷ rest)
 begins name key rest sorted same =
     let ties : eq_by_cmp name_cmp name key.0 ≡ true = subst (λ k. eq_by_cmp name_cmp name k ≡ true) same (itself name_cmp_total name) in
     let test : name_eq key.0 name ≡ true = name_ties key.0 name ∙ subst (λ k. eq_by_cmp name_cmp k name ≡ true) same (itself name_cmp_total name) in
@@ -45,7 +47,8 @@ begins name key rest sorted same =
     }
 
 -- or the list is above it
-apart : (name : Name) (ahead : List (Name × Entry)) → T (is_sorted name_cmp ahead) → T (below_all name_cmp name ahead) → entry_at name ahead ≡ None → behind name ahead ≡ ahead → IsTaken name ahead
+apart : (name : Name) (ahead : List (Name × Entry)) → T (is_sorted name_cmp ahead) → T (below_all name_cmp name ahead)
+    → entry_at name ahead ≡ None → behind name ahead ≡ ahead → IsTaken name ahead
 apart name ahead sorted over none is = record {
   entry = none ∙ sym (find-below name_cmp name ahead over);
   gone = ap (find name_cmp name) is ∙ find-below name_cmp name ahead over;
@@ -56,7 +59,8 @@ apart name ahead sorted over none is = record {
   no_longer = subst (λ es. length es ≤ length ahead) (sym is) (omega arith);
 }
 
-pub taken : (name : Name) (ahead : List (Name × Entry)) → T (is_sorted name_cmp ahead) → IsAtMost name (next_name ahead) → IsTaken name ahead
+pub taken : (name : Name) (ahead : List (Name × Entry)) → T (is_sorted name_cmp ahead) → IsAtMost name (next_name ahead)
+    → IsTaken name ahead
 taken name [] sorted at = apart name [] tt tt refl refl
 taken name (key ∷ rest) sorted (inl same) = begins name key rest sorted same
 taken name (key ∷ rest) sorted (inr low) =

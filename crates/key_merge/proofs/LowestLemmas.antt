@@ -29,7 +29,8 @@ pub record IsLower (a b : Option Name) (name : Name) : Type 0 where
   pub second : IsAtMost name b
   pub is : (a ≡ Some name) ⊎ (b ≡ Some name)
 
-by_order : (x y name : Name) (r : Ordering) → name_cmp y x ≡ r → cond (is_lt r) (Some y) (Some x) ≡ Some name → IsLower (Some x) (Some y) name
+by_order : (x y name : Name) (r : Ordering) → name_cmp y x ≡ r → cond (is_lt r) (Some y) (Some x) ≡ Some name
+    → IsLower (Some x) (Some y) name
 by_order x y name Less e is =
     let same : name ≡ y = sym (some_is y name is) in
     record { first = inr (subst (λ n. name_cmp n x ≡ Less) (sym same) e); second = inl same; is = inr is }
@@ -38,7 +39,11 @@ by_order x y name Equal e is =
     record { first = inl same; second = inl (same ∙ sym (name_cmp-IsAntisymmetric y x e)); is = inl is }
 by_order x y name Greater e is =
     let same : name ≡ x = sym (some_is x name is) in
-    record { first = inl same; second = inr (subst (λ n. name_cmp n y ≡ Less) (sym same) (turned name_cmp_total y x Greater e)); is = inl is }
+    record {
+      first = inl same;
+      second = inr (subst (λ n. name_cmp n y ≡ Less) (sym same) (turned name_cmp_total y x Greater e));
+      is = inl is;
+    }
 
 pub lower-is : (a b : Option Name) (name : Name) → lower a b ≡ Some name → IsLower a b name
 lower-is None None name is = absurd cc
@@ -66,7 +71,8 @@ no_lower (Some x) (Some y) e = absurd (some_none (name_cmp y x) e)
 nothing_above : (name : Name) (a : Option Name) → a ≡ None → IsAtMost name a
 nothing_above name a e = subst (IsAtMost name) (sym e) tt
 
-below_both : (a b : Option Name) (name : Name) → IsAtMost name (lower a b) → (o : Option Name) → lower a b ≡ o → IsAtMost name a × IsAtMost name b
+below_both : (a b : Option Name) (name : Name) → IsAtMost name (lower a b) → (o : Option Name) → lower a b ≡ o
+    → IsAtMost name a × IsAtMost name b
 below_both a b name at None e = let both = no_lower a b e in (nothing_above name a both.0, nothing_above name b both.1)
 below_both a b name at (Some low) e =
     let is = lower-is a b low e in
@@ -93,4 +99,5 @@ lowest-is a b c name is =
 
 -- where none is left, none of the three has a name
 pub none-lowest : (a b c : Option Name) → lower (lower a b) c ≡ None → (a ≡ None) × (b ≡ None) × (c ≡ None)
-none-lowest a b c e = let outer = no_lower (lower a b) c e in let inner = no_lower a b outer.0 in (inner.0, inner.1, outer.1)
+none-lowest a b c e =
+    let outer = no_lower (lower a b) c e in let inner = no_lower a b outer.0 in (inner.0, inner.1, outer.1)

@@ -27,25 +27,32 @@ module _ (strategy : Strategy) (base our their : KeyMap) where
   takes = takes_their strategy base our their
 
   get-taken : (name : Name) → map.get (map.retain_keys their takes) name ≡ cond (takes name) (map.get their name) None
-  get-taken name = map.get-retain_keys their takes name (λ other tied. ap takes (sym (name_cmp-IsAntisymmetric name other tied)))
+  get-taken name =
+      map.get-retain_keys their takes name (λ other tied. ap takes (sym (name_cmp-IsAntisymmetric name other tied)))
 
-  get-left : (name : Name) → map.get (map.retain_keys our (λ n. not (takes n))) name ≡ cond (not (takes name)) (map.get our name) None
-  get-left name = map.get-retain_keys our (λ n. not (takes n)) name (λ other tied. ap (λ n. not (takes n)) (sym (name_cmp-IsAntisymmetric name other tied)))
+  get-left : (name : Name)
+      → map.get (map.retain_keys our (λ n. not (takes n))) name ≡ cond (not (takes name)) (map.get our name) None
+  get-left name =
+      map.get-retain_keys our (λ n. not (takes n)) name (λ other tied. ap (λ n. not (takes n)) (sym (name_cmp-IsAntisymmetric name other tied)))
 
-  pub get-merged : (name : Name) → map.get (merged strategy base our their) name ≡ merged_entry strategy (map.get base name) (map.get our name) (map.get their name)
+  pub get-merged : (name : Name)
+      → map.get (merged strategy base our their) name
+      ≡ merged_entry strategy (map.get base name) (map.get our name) (map.get their name)
   get-merged name =
       get-with_all (map.retain_keys their takes) (map.retain_keys our (λ n. not (takes n))) name
       ∙ ap (λ found. option_or found (map.get (map.retain_keys our (λ n. not (takes n))) name)) (get-taken name)
       ∙ ap (option_or (cond (takes name) (map.get their name) None)) (get-left name)
       ∙ by (takes name) (map.get their name)
     where
-      by : (b : Bool) (theirs : Option Entry) → option_or (cond b theirs None) (cond (not b) (map.get our name) None) ≡ cond b theirs (map.get our name)
+      by : (b : Bool) (theirs : Option Entry)
+          → option_or (cond b theirs None) (cond (not b) (map.get our name) None) ≡ cond b theirs (map.get our name)
       by true None = refl
       by true (Some entry) = refl
       by false theirs = refl
 
   pub merged-is : (keys : KeyMap) → IsMerged strategy base our their keys → keys ≡ merged strategy base our their
-  merged-is keys is = map.same_map name_cmp_total name_cmp-IsAntisymmetric keys (merged strategy base our their) (λ name. is.each name ∙ sym (get-merged name))
+  merged-is keys is =
+      map.same_map name_cmp_total name_cmp-IsAntisymmetric keys (merged strategy base our their) (λ name. is.each name ∙ sym (get-merged name))
 
 -- ---- the names in conflict
 
@@ -73,7 +80,8 @@ module _ (base our their : KeyMap) where
       (has-found (map.keys (with_all our their)) name (sym (map.contains_key-keys (with_all our their) name) ∙ ap is_some (get-with_all our their name) ∙ side_has (map.get base name) (map.get our name) (map.get their name) is))
 
   conflict-has : (name : Name) → Has (conflicts base our their) name → IsConflict base our their name
-  conflict-has name h = is-conflict (choice_at base our their name) (filter-has at (map.keys (with_all our their)) name h)
+  conflict-has name h =
+      is-conflict (choice_at base our their name) (filter-has at (map.keys (with_all our their)) name h)
 
   pub conflicts-are : (names : List Name) → AreConflicts base our their names → names ≡ conflicts base our their
   conflicts-are names are =

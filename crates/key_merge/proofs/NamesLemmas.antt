@@ -22,14 +22,16 @@ pub has-contains : (names : List Name) (name : Name) → Contains names name →
 has-contains [] name h = absurd (omega (arith, h.1))
 has-contains (one ∷ names) name h = by (has-contains names name) h.0 h.1 h.2
   where
-    by : (Contains names name → Has names name) → (k : ℕ) → k < length (one ∷ names) → slice_index_or (one ∷ names) k name ≡ name → Has (one ∷ names) name
+    by : (Contains names name → Has names name) → (k : ℕ) → k < length (one ∷ names)
+        → slice_index_or (one ∷ names) k name ≡ name → Has (one ∷ names) name
     by rest zero within is = inl is
     by rest (suc k) within is = inr (rest (k, omega (arith, within), is))
 
 pub contains-has : (names : List Name) (name : Name) → Has names name → Contains names name
 contains-has [] name h = absurd h
 contains-has (one ∷ names) name (inl is) = (0, omega arith, is)
-contains-has (one ∷ names) name (inr h) = let rest = contains-has names name h in (suc rest.0, omega (arith, rest.1), rest.2)
+contains-has (one ∷ names) name (inr h) =
+    let rest = contains-has names name h in (suc rest.0, omega (arith, rest.1), rest.2)
 
 -- what holds of all of them
 all-has : (P : Name → Type 0) (names : List Name) (name : Name) → AllByRecursion P names → Has names name → P name
@@ -38,9 +40,11 @@ all-has P (one ∷ names) name all (inl is) = subst P is all.0
 all-has P (one ∷ names) name all (inr h) = all-has P names name all.1 h
 
 -- those that pass a test
-pub has-filter : (p : Name → Bool) (names : List Name) (name : Name) → p name ≡ true → Has names name → Has (filter p names) name
+pub has-filter : (p : Name → Bool) (names : List Name) (name : Name) → p name ≡ true → Has names name
+    → Has (filter p names) name
 has-filter p [] name passes h = absurd h
-has-filter p (one ∷ names) name passes (inl is) = subst (λ b. Has (cond b (one ∷ filter p names) (filter p names)) name) (sym (ap p is ∙ passes)) (inl is)
+has-filter p (one ∷ names) name passes (inl is) =
+    subst (λ b. Has (cond b (one ∷ filter p names) (filter p names)) name) (sym (ap p is ∙ passes)) (inl is)
 has-filter p (one ∷ names) name passes (inr h) = by (has-filter p names name passes h) (p one)
   where
     by : Has (filter p names) name → (b : Bool) → Has (cond b (one ∷ filter p names) (filter p names)) name
@@ -51,7 +55,8 @@ pub filter-has : (p : Name → Bool) (names : List Name) (name : Name) → Has (
 filter-has p [] name h = absurd h
 filter-has p (one ∷ names) name h = by (filter-has p names name) (p one) refl h
   where
-    by : (Has (filter p names) name → p name ≡ true) → (b : Bool) → p one ≡ b → Has (cond b (one ∷ filter p names) (filter p names)) name → p name ≡ true
+    by : (Has (filter p names) name → p name ≡ true) → (b : Bool) → p one ≡ b
+        → Has (cond b (one ∷ filter p names) (filter p names)) name → p name ≡ true
     by others true is (inl same) = ap p (sym same) ∙ is
     by others true is (inr rest) = others rest
     by others false is rest = others rest
@@ -59,9 +64,12 @@ filter-has p (one ∷ names) name h = by (filter-has p names name) (p one) refl 
 -- a search finds one
 pub has-found : (names : List Name) (name : Name) → list_any (eq_by_cmp name_cmp name) names ≡ true → Has names name
 has-found [] name found = absurd cc
-has-found (one ∷ names) name found = by (has-found names name) (tied_or_not {R = name_cmp} name_cmp-IsAntisymmetric name one)
+has-found (one ∷ names) name found =
+    by (has-found names name) (tied_or_not {R = name_cmp} name_cmp-IsAntisymmetric name one)
   where
-    by : (list_any (eq_by_cmp name_cmp name) names ≡ true → Has names name) → (eq_by_cmp name_cmp name one ≡ false) ⊎ ((eq_by_cmp name_cmp name one ≡ true) × (name ≡ one)) → Has (one ∷ names) name
+    by : (list_any (eq_by_cmp name_cmp name) names ≡ true → Has names name)
+        → (eq_by_cmp name_cmp name one ≡ false) ⊎ ((eq_by_cmp name_cmp name one ≡ true) × (name ≡ one))
+        → Has (one ∷ names) name
     by others (inl differ) = inr (others (sym (ap (λ b. b || list_any (eq_by_cmp name_cmp name) names) differ) ∙ found))
     by others (inr tied) = inl (sym tied.1)
 
@@ -73,11 +81,14 @@ clash one other is back = let no : Greater ≡ Less = sym (turned name_cmp_total
 not_below_itself : (name : Name) → name_cmp name name ≡ Less → ⊥
 not_below_itself name is = clash name name is is
 
-pub one_list : (xs ys : List Name) → IsStrictlySortedBy name_cmp xs → IsStrictlySortedBy name_cmp ys → ((name : Name) → Has xs name → Has ys name) → ((name : Name) → Has ys name → Has xs name) → xs ≡ ys
+pub one_list : (xs ys : List Name) → IsStrictlySortedBy name_cmp xs → IsStrictlySortedBy name_cmp ys
+    → ((name : Name) → Has xs name → Has ys name) → ((name : Name) → Has ys name → Has xs name) → xs ≡ ys
 one_list [] [] xs_rise ys_rise there back = refl
 one_list [] (y ∷ ys) xs_rise ys_rise there back = absurd (back y (inl refl))
 one_list (x ∷ xs) [] xs_rise ys_rise there back = absurd (there x (inl refl))
-one_list (x ∷ xs) (y ∷ ys) xs_rise ys_rise there back = ap (λ name. name ∷ xs) same ∙ ap (λ names. y ∷ names) (one_list xs ys (sorted_tail name_cmp x xs xs_rise) (sorted_tail name_cmp y ys ys_rise) onward backward)
+one_list (x ∷ xs) (y ∷ ys) xs_rise ys_rise there back =
+    ap (λ name. name ∷ xs) same
+    ∙ ap (λ names. y ∷ names) (one_list xs ys (sorted_tail name_cmp x xs xs_rise) (sorted_tail name_cmp y ys ys_rise) onward backward)
   where
     above_x : (name : Name) → Has xs name → name_cmp x name ≡ Less
     above_x name h = all-has (λ other. name_cmp x other ≡ Less) xs name (sorted_head name_cmp x xs xs_rise) h
@@ -97,12 +108,14 @@ one_list (x ∷ xs) (y ∷ ys) xs_rise ys_rise there back = ap (λ name. name �
     onward name h = by (there name (inr h))
       where
         by : (y ≡ name) ⊎ Has ys name → Has ys name
-        by (inl is) = absurd (not_below_itself x (subst (λ other. name_cmp x other ≡ Less) (sym (same ∙ is)) (above_x name h)))
+        by (inl is) =
+            absurd (not_below_itself x (subst (λ other. name_cmp x other ≡ Less) (sym (same ∙ is)) (above_x name h)))
         by (inr rest) = rest
 
     backward : (name : Name) → Has ys name → Has xs name
     backward name h = by (back name (inr h))
       where
         by : (x ≡ name) ⊎ Has xs name → Has xs name
-        by (inl is) = absurd (not_below_itself y (subst (λ other. name_cmp y other ≡ Less) (sym is ∙ same) (above_y name h)))
+        by (inl is) =
+            absurd (not_below_itself y (subst (λ other. name_cmp y other ≡ Less) (sym is ∙ same) (above_y name h)))
         by (inr rest) = rest

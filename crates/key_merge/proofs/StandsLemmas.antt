@@ -74,23 +74,30 @@ module _ (strategy : Strategy) (at_base at_our at_their : KeyMap) where
 
   -- ---- a step
 
-  get-with_entry : (name : Name) (entry : Option Entry) (keys : KeyMap) (q : Name) → map.get (with_entry name entry keys) q ≡ cond (eq_by_cmp name_cmp q name) entry (map.get keys q)
+  get-with_entry : (name : Name) (entry : Option Entry) (keys : KeyMap) (q : Name)
+      → map.get (with_entry name entry keys) q ≡ cond (eq_by_cmp name_cmp q name) entry (map.get keys q)
   get-with_entry name None keys q = get-remove name_cmp_total keys name q
   get-with_entry name (Some entry) keys q = get-insert name_cmp_total keys name entry q
 
-  get-elsewhere : (taken : Bool) (name : Name) (entry : Option Entry) (keys : KeyMap) (q : Name) → eq_by_cmp name_cmp q name ≡ false → map.get (cond taken (with_entry name entry keys) keys) q ≡ map.get keys q
+  get-elsewhere : (taken : Bool) (name : Name) (entry : Option Entry) (keys : KeyMap) (q : Name)
+      → eq_by_cmp name_cmp q name ≡ false → map.get (cond taken (with_entry name entry keys) keys) q ≡ map.get keys q
   get-elsewhere false name entry keys q e = refl
   get-elsewhere true name entry keys q e = get-with_entry name entry keys q ∙ ap (λ b. cond b entry (map.get keys q)) e
 
-  get-there : (taken : Bool) (name : Name) (entry kept : Option Entry) (keys : KeyMap) (q : Name) → eq_by_cmp name_cmp q name ≡ true → map.get keys q ≡ kept → map.get (cond taken (with_entry name entry keys) keys) q ≡ cond taken entry kept
+  get-there : (taken : Bool) (name : Name) (entry kept : Option Entry) (keys : KeyMap) (q : Name)
+      → eq_by_cmp name_cmp q name ≡ true → map.get keys q ≡ kept
+      → map.get (cond taken (with_entry name entry keys) keys) q ≡ cond taken entry kept
   get-there false name entry kept keys q e is = is
-  get-there true name entry kept keys q e is = get-with_entry name entry keys q ∙ ap (λ b. cond b entry (map.get keys q)) e
+  get-there true name entry kept keys q e is =
+      get-with_entry name entry keys q ∙ ap (λ b. cond b entry (map.get keys q)) e
 
-  contains-more : (told : Bool) (names : List Name) (name q : Name) → Contains names q → Contains (cond told (names ++ name ∷ []) names) q
+  contains-more : (told : Bool) (names : List Name) (name q : Name) → Contains names q
+      → Contains (cond told (names ++ name ∷ []) names) q
   contains-more false names name q has = has
   contains-more true names name q has = Contains-append_left names (name ∷ []) q has
 
-  contains-told : (told : Bool) (names : List Name) (name : Name) → told ≡ true → Contains (cond told (names ++ name ∷ []) names) name
+  contains-told : (told : Bool) (names : List Name) (name : Name) → told ≡ true
+      → Contains (cond told (names ++ name ∷ []) names) name
   contains-told false names name e = absurd cc
   contains-told true names name e = Contains-append_right names (name ∷ []) name (0, omega arith, refl)
 
@@ -101,26 +108,37 @@ module _ (strategy : Strategy) (at_base at_our at_their : KeyMap) where
       at zero lt is = sym is
       at (suc k) lt is = absurd (omega (arith, lt))
 
-  only-more : (told : Bool) (names : List Name) (name q : Name) → Contains (cond told (names ++ name ∷ []) names) q → Contains names q ⊎ ((q ≡ name) × (told ≡ true))
+  only-more : (told : Bool) (names : List Name) (name q : Name) → Contains (cond told (names ++ name ∷ []) names) q
+      → Contains names q ⊎ ((q ≡ name) × (told ≡ true))
   only-more false names name q has = inl has
-  only-more true names name q has = elim (Contains-append_cases names (name ∷ []) q has) as (λ _. Contains names q ⊎ ((q ≡ name) × (true ≡ true))) [ inl p ↦ inl p | inr p ↦ inr (single name q p, refl) ]
+  only-more true names name q has =
+      elim (Contains-append_cases names (name ∷ []) q has) as (λ _. Contains names q ⊎ ((q ≡ name) × (true ≡ true))) [ inl p ↦ inl p | inr p ↦ inr (single name q p, refl) ]
 
-  all-below : (names : List Name) (b o t b' o' t' : List (Name × Entry)) → ((q : Name) → IsBelowAll b o t q → IsBelowAll b' o' t' q) → AllByRecursion (IsBelowAll b o t) names → AllByRecursion (IsBelowAll b' o' t') names
+  all-below : (names : List Name) (b o t b' o' t' : List (Name × Entry))
+      → ((q : Name) → IsBelowAll b o t q → IsBelowAll b' o' t' q) → AllByRecursion (IsBelowAll b o t) names
+      → AllByRecursion (IsBelowAll b' o' t') names
   all-below [] b o t b' o' t' step h = tt
   all-below (n ∷ names) b o t b' o' t' step h = (step n h.0, all-below names b o t b' o' t' step h.1)
 
-  below-more : (told : Bool) (names : List Name) (name : Name) (b o t : List (Name × Entry)) → AllByRecursion (IsBelowAll b o t) names → IsBelowAll b o t name → AllByRecursion (IsBelowAll b o t) (cond told (names ++ name ∷ []) names)
+  below-more : (told : Bool) (names : List Name) (name : Name) (b o t : List (Name × Entry))
+      → AllByRecursion (IsBelowAll b o t) names → IsBelowAll b o t name
+      → AllByRecursion (IsBelowAll b o t) (cond told (names ++ name ∷ []) names)
   below-more false names name b o t h p = h
   below-more true [] name b o t h p = (p, tt)
   below-more true (n ∷ names) name b o t h p = (h.0, below-more true names name b o t h.1 p)
 
-  ascends-more : (told : Bool) (names : List Name) (name : Name) → IsStrictlySortedBy name_cmp names → AllByRecursion (λ q. name_cmp q name ≡ Less) names → IsStrictlySortedBy name_cmp (cond told (names ++ name ∷ []) names)
+  ascends-more : (told : Bool) (names : List Name) (name : Name) → IsStrictlySortedBy name_cmp names
+      → AllByRecursion (λ q. name_cmp q name ≡ Less) names
+      → IsStrictlySortedBy name_cmp (cond told (names ++ name ∷ []) names)
   unfolding IsStrictlySortedBy
   ascends-more false names name h p = h
   ascends-more true [] name h p = (tt, tt)
-  ascends-more true (n ∷ names) name h p = (all_append (λ y. name_cmp n y ≡ Less) names (name ∷ []) h.0 (p.0, tt), ascends-more true names name h.1 p.1)
+  ascends-more true (n ∷ names) name h p =
+      (all_append (λ y. name_cmp n y ≡ Less) names (name ∷ []) h.0 (p.0, tt), ascends-more true names name h.1 p.1)
 
-  all-over : (names : List Name) (name : Name) (b o t : List (Name × Entry)) → ((q : Name) → IsBelowAll b o t q → name_cmp q name ≡ Less) → AllByRecursion (IsBelowAll b o t) names → AllByRecursion (λ q. name_cmp q name ≡ Less) names
+  all-over : (names : List Name) (name : Name) (b o t : List (Name × Entry))
+      → ((q : Name) → IsBelowAll b o t q → name_cmp q name ≡ Less) → AllByRecursion (IsBelowAll b o t) names
+      → AllByRecursion (λ q. name_cmp q name ≡ Less) names
   all-over [] name b o t over h = tt
   all-over (n ∷ names) name b o t over h = (over n h.0, all-over names name b o t over h.1)
 
@@ -129,19 +147,33 @@ module _ (strategy : Strategy) (at_base at_our at_their : KeyMap) where
     pub found : (find name_cmp name b ≡ None) → (find name_cmp name o ≡ None) → (find name_cmp name t ≡ None) → ⊥
     pub shorter : suc (length (behind name b) + length (behind name o) + length (behind name t)) ≤ length b + length o + length t
 
-  goes : (b o t : List (Name × Entry)) (name : Name) → IsTaken name b → IsTaken name o → IsTaken name t → (next_name b ≡ Some name) ⊎ ((next_name o ≡ Some name) ⊎ (next_name t ≡ Some name)) → Goes b o t name
+  goes : (b o t : List (Name × Entry)) (name : Name) → IsTaken name b → IsTaken name o → IsTaken name t
+      → (next_name b ≡ Some name) ⊎ ((next_name o ≡ Some name) ⊎ (next_name t ≡ Some name)) → Goes b o t name
   goes b o t name p q r (inl e) =
       let at = at_first name b e in
-      record { over = λ n h. at.over n h.base; found = λ x y z. at.found x; shorter = omega (arith, at.shorter, q.no_longer, r.no_longer) }
+      record {
+        over = λ n h. at.over n h.base;
+        found = λ x y z. at.found x;
+        shorter = omega (arith, at.shorter, q.no_longer, r.no_longer);
+      }
   goes b o t name p q r (inr (inl e)) =
       let at = at_first name o e in
-      record { over = λ n h. at.over n h.our; found = λ x y z. at.found y; shorter = omega (arith, at.shorter, p.no_longer, r.no_longer) }
+      record {
+        over = λ n h. at.over n h.our;
+        found = λ x y z. at.found y;
+        shorter = omega (arith, at.shorter, p.no_longer, r.no_longer);
+      }
   goes b o t name p q r (inr (inr e)) =
       let at = at_first name t e in
-      record { over = λ n h. at.over n h.their; found = λ x y z. at.found z; shorter = omega (arith, at.shorter, p.no_longer, q.no_longer) }
+      record {
+        over = λ n h. at.over n h.their;
+        found = λ x y z. at.found z;
+        shorter = omega (arith, at.shorter, p.no_longer, q.no_longer);
+      }
 
   -- a name that one of the sets has next is not past
-  ahead_of : (b o t : List (Name × Entry)) (keys : KeyMap) (names : List Name) (name : Name) → Goes b o t name → IsPast b o t keys names name ⊎ IsAhead b o t keys name → IsAhead b o t keys name
+  ahead_of : (b o t : List (Name × Entry)) (keys : KeyMap) (names : List Name) (name : Name) → Goes b o t name
+      → IsPast b o t keys names name ⊎ IsAhead b o t keys name → IsAhead b o t keys name
   ahead_of b o t keys names name on (inl past) = absurd (on.found past.base past.our past.their)
   ahead_of b o t keys names name on (inr ahead) = ahead
 
@@ -153,7 +185,8 @@ module _ (strategy : Strategy) (at_base at_our at_their : KeyMap) where
     abbrev tells : Bool
     tells = is_told strategy (choice_of x y z)
 
-    past_here : Stands b o t keys names → IsTaken name b → IsTaken name o → IsTaken name t → IsAhead b o t keys name → x ≡ map.get at_base name → y ≡ map.get at_our name → z ≡ map.get at_their name
+    past_here : Stands b o t keys names → IsTaken name b → IsTaken name o → IsTaken name t → IsAhead b o t keys name
+        → x ≡ map.get at_base name → y ≡ map.get at_our name → z ≡ map.get at_their name
         → IsPast (behind name b) (behind name o) (behind name t) (cond takes (with_entry name z keys) keys) (cond tells (names ++ name ∷ []) names) name
     past_here now p q r ahead ex ey ez =
         let same : choice_of x y z ≡ conflict_at name = λ i. choice_of (ex i) (ey i) (ez i) in
@@ -166,8 +199,10 @@ module _ (strategy : Strategy) (at_base at_our at_their : KeyMap) where
           told = λ e. contains-told tells names name (ap (is_told strategy) same ∙ e);
         }
 
-    past_or_ahead : Stands b o t keys names → IsTaken name b → IsTaken name o → IsTaken name t → IsAhead b o t keys name → x ≡ map.get at_base name → y ≡ map.get at_our name → z ≡ map.get at_their name → (q : Name)
-        → IsPast (behind name b) (behind name o) (behind name t) (cond takes (with_entry name z keys) keys) (cond tells (names ++ name ∷ []) names) q ⊎ IsAhead (behind name b) (behind name o) (behind name t) (cond takes (with_entry name z keys) keys) q
+    past_or_ahead : Stands b o t keys names → IsTaken name b → IsTaken name o → IsTaken name t → IsAhead b o t keys name
+        → x ≡ map.get at_base name → y ≡ map.get at_our name → z ≡ map.get at_their name → (q : Name)
+        → IsPast (behind name b) (behind name o) (behind name t) (cond takes (with_entry name z keys) keys) (cond tells (names ++ name ∷ []) names) q
+        ⊎ IsAhead (behind name b) (behind name o) (behind name t) (cond takes (with_entry name z keys) keys) q
     past_or_ahead now p q r ahead ex ey ez n =
         elim (tied_or_not name_cmp-IsAntisymmetric n name) as (λ _. IsPast (behind name b) (behind name o) (behind name t) (cond takes (with_entry name z keys) keys) (cond tells (names ++ name ∷ []) names) n ⊎ IsAhead (behind name b) (behind name o) (behind name t) (cond takes (with_entry name z keys) keys) n) [
           | inl apart ↦ elim (now.each n) as (λ _. IsPast (behind name b) (behind name o) (behind name t) (cond takes (with_entry name z keys) keys) (cond tells (names ++ name ∷ []) names) n ⊎ IsAhead (behind name b) (behind name o) (behind name t) (cond takes (with_entry name z keys) keys) n) [
@@ -188,7 +223,8 @@ module _ (strategy : Strategy) (at_base at_our at_their : KeyMap) where
           | inr tied ↦ inl (subst (IsPast (behind name b) (behind name o) (behind name t) (cond takes (with_entry name z keys) keys) (cond tells (names ++ name ∷ []) names)) (sym tied.1) (past_here now p q r ahead ex ey ez))
         ]
 
-    steps : Stands b o t keys names → IsTaken name b → IsTaken name o → IsTaken name t → Goes b o t name → IsAhead b o t keys name → x ≡ map.get at_base name → y ≡ map.get at_our name → z ≡ map.get at_their name
+    steps : Stands b o t keys names → IsTaken name b → IsTaken name o → IsTaken name t → Goes b o t name
+        → IsAhead b o t keys name → x ≡ map.get at_base name → y ≡ map.get at_our name → z ≡ map.get at_their name
         → Stands (behind name b) (behind name o) (behind name t) (cond takes (with_entry name z keys) keys) (cond tells (names ++ name ∷ []) names)
     steps now p q r on ahead ex ey ez =
         let same : choice_of x y z ≡ conflict_at name = λ i. choice_of (ex i) (ey i) (ez i) in
@@ -211,7 +247,8 @@ module _ (strategy : Strategy) (at_base at_our at_their : KeyMap) where
     pub stands : Stands (behind name b) (behind name o) (behind name t) (keys_with strategy name (entry_at name b) (entry_at name o) (entry_at name t) keys) (names_with strategy name (entry_at name b) (entry_at name o) (entry_at name t) names)
     pub shorter : suc (length (behind name b) + length (behind name o) + length (behind name t)) ≤ length b + length o + length t
 
-  pub went : (b o t : List (Name × Entry)) (keys : KeyMap) (names : List Name) (name : Name) → Stands b o t keys names → lower (lower (next_name b) (next_name o)) (next_name t) ≡ Some name → Went b o t keys names name
+  pub went : (b o t : List (Name × Entry)) (keys : KeyMap) (names : List Name) (name : Name) → Stands b o t keys names
+      → lower (lower (next_name b) (next_name o)) (next_name t) ≡ Some name → Went b o t keys names name
   went b o t keys names name now low =
       let least = lowest-is (next_name b) (next_name o) (next_name t) name low in
       let p = taken name b now.base_sorted least.first in
@@ -245,21 +282,26 @@ module _ (strategy : Strategy) (at_base at_our at_their : KeyMap) where
   no_conflict e = absurd cc
 
   -- of a name that no set has
-  nowhere : (keys : KeyMap) (q : Name) → IsAhead [] [] [] keys q → (map.get keys q ≡ merged_entry strategy (map.get at_base q) (map.get at_our q) (map.get at_their q)) × (IsConflict at_base at_our at_their q → ⊥)
+  nowhere : (keys : KeyMap) (q : Name) → IsAhead [] [] [] keys q
+      → (map.get keys q ≡ merged_entry strategy (map.get at_base q) (map.get at_our q) (map.get at_their q))
+      × (IsConflict at_base at_our at_their q → ⊥)
   nowhere keys q a = (
     a.still ∙ sym a.our ∙ (λ i. merged_entry strategy (a.base i) (a.our i) (a.their i)),
     λ conflict. no_conflict ((λ i. choice_of (a.base i) (a.our i) (a.their i)) ∙ conflict),
   )
 
-  told_conflict : strategy ≡ Abort → (q : Name) → IsConflict at_base at_our at_their q → is_told strategy (conflict_at q) ≡ true
+  told_conflict : strategy ≡ Abort → (q : Name) → IsConflict at_base at_our at_their q
+      → is_told strategy (conflict_at q) ≡ true
   told_conflict abort q conflict = λ i. is_told (abort i) (conflict i)
 
-  at_end : (b o t : List (Name × Entry)) (keys : KeyMap) (names : List Name) → Stands b o t keys names → lower (lower (next_name b) (next_name o)) (next_name t) ≡ None → Stands [] [] [] keys names
+  at_end : (b o t : List (Name × Entry)) (keys : KeyMap) (names : List Name) → Stands b o t keys names
+      → lower (lower (next_name b) (next_name o)) (next_name t) ≡ None → Stands [] [] [] keys names
   at_end b o t keys names now e =
       let none = none-lowest (next_name b) (next_name o) (next_name t) e in
       subst (λ es. Stands es [] [] keys names) (no_keys_left b none.0) (subst (λ es. Stands b es [] keys names) (no_keys_left o none.1) (subst (λ es. Stands b o es keys names) (no_keys_left t none.2) now))
 
-  each_listed : (keys : KeyMap) (names : List Name) → Stands [] [] [] keys names → strategy ≡ Abort → (q : Name) → IsConflict at_base at_our at_their q → Contains names q
+  each_listed : (keys : KeyMap) (names : List Name) → Stands [] [] [] keys names → strategy ≡ Abort → (q : Name)
+      → IsConflict at_base at_our at_their q → Contains names q
   each_listed keys names now abort q conflict = elim (now.each q) as (λ _. Contains names q) [
     | inl past ↦ past.told (told_conflict abort q conflict)
     | inr ahead ↦ absurd ((nowhere keys q ahead).1 conflict)
@@ -269,7 +311,9 @@ module _ (strategy : Strategy) (at_base at_our at_their : KeyMap) where
   one_of [] some = absurd (some refl)
   one_of (q ∷ names) some = (q, (0, omega arith, refl))
 
-  pub conflicts-end : (b o t : List (Name × Entry)) (keys : KeyMap) (names : List Name) → Stands b o t keys names → lower (lower (next_name b) (next_name o)) (next_name t) ≡ None → names ≢ [] → (strategy ≡ Abort) × AreConflicts at_base at_our at_their names
+  pub conflicts-end : (b o t : List (Name × Entry)) (keys : KeyMap) (names : List Name) → Stands b o t keys names
+      → lower (lower (next_name b) (next_name o)) (next_name t) ≡ None → names ≢ []
+      → (strategy ≡ Abort) × AreConflicts at_base at_our at_their names
   conflicts-end b o t keys names now e some =
       let end = at_end b o t keys names now e in
       let one = one_of names some in
@@ -278,12 +322,16 @@ module _ (strategy : Strategy) (at_base at_our at_their : KeyMap) where
 
   -- ---- the same of equal values
 
-  pub starts-as : (b o t : List (Name × Entry)) (keys : KeyMap) (names : List Name) → b ≡ map.entries at_base → o ≡ map.entries at_our → t ≡ map.entries at_their → keys ≡ at_our → names ≡ [] → Stands b o t keys names
+  pub starts-as : (b o t : List (Name × Entry)) (keys : KeyMap) (names : List Name) → b ≡ map.entries at_base
+      → o ≡ map.entries at_our → t ≡ map.entries at_their → keys ≡ at_our → names ≡ [] → Stands b o t keys names
   starts-as b o t keys names eb eo et ek en = subst (λ es. Stands es o t keys names) (sym eb) (subst (λ es. Stands (map.entries at_base) es t keys names) (sym eo) (subst (λ es. Stands (map.entries at_base) (map.entries at_our) es keys names) (sym et)
       (subst (λ ks. Stands (map.entries at_base) (map.entries at_our) (map.entries at_their) ks names) (sym ek) (subst (λ ns. Stands (map.entries at_base) (map.entries at_our) (map.entries at_their) at_our ns) (sym en) starts))))
 
-  pub went-as : (b o t b' o' t' : List (Name × Entry)) (keys keys' : KeyMap) (names names' : List Name) (name : Name) (x y z : Option Entry) (s : Strategy) → s ≡ strategy → Stands b o t keys names → lower (lower (next_name b) (next_name o)) (next_name t) ≡ Some name
-      → b' ≡ behind name b → o' ≡ behind name o → t' ≡ behind name t → x ≡ entry_at name b → y ≡ entry_at name o → z ≡ entry_at name t → keys' ≡ keys_with s name x y z keys → names' ≡ names_with s name x y z names
+  pub went-as : (b o t b' o' t' : List (Name × Entry)) (keys keys' : KeyMap) (names names' : List Name) (name : Name)
+      (x y z : Option Entry) (s : Strategy) → s ≡ strategy → Stands b o t keys names
+      → lower (lower (next_name b) (next_name o)) (next_name t) ≡ Some name
+      → b' ≡ behind name b → o' ≡ behind name o → t' ≡ behind name t → x ≡ entry_at name b → y ≡ entry_at name o
+      → z ≡ entry_at name t → keys' ≡ keys_with s name x y z keys → names' ≡ names_with s name x y z names
       → Stands b' o' t' keys' names' × (suc (length b' + length o' + length t') ≤ length b + length o + length t)
   went-as b o t b' o' t' keys keys' names names' name x y z s es now low eb eo et ex ey ez ek en =
       let go = went b o t keys names name now low in

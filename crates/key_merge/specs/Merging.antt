@@ -45,7 +45,8 @@ IsConflict base our their name = choice_of (map.get base name) (map.get our name
 
 -- keys are those of two sets that come from a base: each name by itself, and under abort no name is in conflict
 pub record IsMerged (strategy : Strategy) (base our their keys : KeyMap) : Type 0 where
-  pub each : (name : Name) → map.get keys name ≡ merged_entry strategy (map.get base name) (map.get our name) (map.get their name)
+  pub each : (name : Name)
+      → map.get keys name ≡ merged_entry strategy (map.get base name) (map.get our name) (map.get their name)
   pub agreed : strategy ≡ Abort → (name : Name) → IsConflict base our their name → ⊥
 
 -- the names in conflict, all of them, in name order

@@ -33,8 +33,10 @@ is_told Their choice.Conflict = false
 
 -- the keys so far with a name merged
 abbrev pub keys_with : Strategy → Name → Option Entry → Option Entry → Option Entry → KeyMap → KeyMap
-keys_with strategy name base our their keys = cond (is_taken_from_their strategy (choice_of base our their)) (with_entry name their keys) keys
+keys_with strategy name base our their keys =
+    cond (is_taken_from_their strategy (choice_of base our their)) (with_entry name their keys) keys
 
 -- and the conflicts so far with those of the name
 abbrev pub names_with : Strategy → Name → Option Entry → Option Entry → Option Entry → List Name → List Name
-names_with strategy name base our their names = cond (is_told strategy (choice_of base our their)) (names ++ name ∷ []) names
+names_with strategy name base our their names =
+    cond (is_told strategy (choice_of base our their)) (names ++ name ∷ []) names

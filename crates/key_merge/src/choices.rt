@@ -17,7 +17,8 @@ pub enum Choice {
 
 /// What becomes of a name that has these entries, each perhaps absent.
 pub fn choose(base: Option<&Entry>, our: Option<&Entry>, their: Option<&Entry>) -> Choice
-    ensures { result ≡ choice_of (option_map (λ e. entry_of e.now) base.entry) (option_map (λ e. entry_of e.now) our.entry) (option_map (λ e. entry_of e.now) their.entry) }
+    ensures { result
+        ≡ choice_of (option_map (λ e. entry_of e.now) base.entry) (option_map (λ e. entry_of e.now) our.entry) (option_map (λ e. entry_of e.now) their.entry) }
 {
     if is_same(our, their) {
         Choice::Our
@@ -46,7 +47,8 @@ pub fn takes_their(choice: Choice, strategy: Strategy) -> bool
 
 /// Whether two entries, each perhaps absent, are the same.
 fn is_same(one: Option<&Entry>, other: Option<&Entry>) -> bool
-    ensures { result ≡ is_same_entry (option_map (λ e. entry_of e.now) one.entry) (option_map (λ e. entry_of e.now) other.entry) }
+    ensures { result
+        ≡ is_same_entry (option_map (λ e. entry_of e.now) one.entry) (option_map (λ e. entry_of e.now) other.entry) }
 {
     match (one, other) {
         (None, None) => true,

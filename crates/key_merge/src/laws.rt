@@ -10,5 +10,6 @@ pub fn the_side_that_changed_a_name_gives_it()
     ensures alike { (base both : Option Entry) → choice_of base both both ≡ choice.Our }
     ensures their { (base their : Option Entry) → their ≢ base → choice_of base base their ≡ choice.Their }
     ensures our { (base our : Option Entry) → our ≢ base → choice_of base our base ≡ choice.Our }
-    ensures conflict { (base our their : Option Entry) → our ≢ base → their ≢ base → our ≢ their → choice_of base our their ≡ choice.Conflict }
+    ensures conflict { (base our their : Option Entry) → our ≢ base → their ≢ base → our ≢ their
+        → choice_of base our their ≡ choice.Conflict }
 {}

@@ -41,7 +41,8 @@ impl<'a> Walk<'a> {
 
     /// The lowest name that one of the sets still has.
     pub fn name(&self) -> Option<&'a KeyName>
-        ensures { option_map (λ name. name.now) result ≡ lower (lower (next_name self.now.base) (next_name self.now.our)) (next_name self.now.their) }
+        ensures { option_map (λ name. name.now) result
+            ≡ lower (lower (next_name self.now.base) (next_name self.now.our)) (next_name self.now.their) }
     {
         lower_of(
             lower_of(self.base.name(), self.our.name()),
@@ -68,7 +69,8 @@ impl<'a> Walk<'a> {
 
 /// The lower of two names, each perhaps absent.
 fn lower_of<'a>(one: Option<&'a KeyName>, other: Option<&'a KeyName>) -> Option<&'a KeyName>
-    ensures { option_map (λ name. name.now) result ≡ lower (option_map (λ name. name.now) one.entry) (option_map (λ name. name.now) other.entry) }
+    ensures { option_map (λ name. name.now) result
+        ≡ lower (option_map (λ name. name.now) one.entry) (option_map (λ name. name.now) other.entry) }
 {
     match (one, other) {
         (None, other) => other,

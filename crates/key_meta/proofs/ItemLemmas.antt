@@ -11,7 +11,8 @@ use Rattle.key_meta.specs.MetaView.{IsItem, AreItems}
 use Rattle.general_words.proofs.Orders.{tied}
 use Rattle.general_words.proofs.Lists.{all_append}
 
-pub AreItems-put : (name text : List ℕ) → IsItem (name, text) → (items : List (List ℕ × List ℕ)) → AreItems items → AreItems (put text_cmp name text items)
+pub AreItems-put : (name text : List ℕ) → IsItem (name, text) → (items : List (List ℕ × List ℕ)) → AreItems items
+    → AreItems (put text_cmp name text items)
 AreItems-put name text is [] all = (is, tt)
 AreItems-put name text is (item ∷ items) all =
     elim (text_cmp name item.0) as (λ r. AreItems (by_order r ((name, text) ∷ item ∷ items) ((item.0, text) ∷ items) (item ∷ put text_cmp name text items))) [
@@ -31,21 +32,25 @@ all_front (suc n) [] all = tt
 all_front (suc n) (item ∷ items) all = (all.0, all_front n items all.1)
 
 pub AreItems-remove : (i : ℕ) (items : List (List ℕ × List ℕ)) → AreItems items → AreItems (remove items i)
-AreItems-remove i items all = all_append IsItem (take i items) (drop (suc i) items) (all_front i items all) (all_drop (suc i) items all)
+AreItems-remove i items all =
+    all_append IsItem (take i items) (drop (suc i) items) (all_front i items all) (all_drop (suc i) items all)
 
 -- the item at a place, or a good one
-pub IsItem-at : (i : ℕ) (items : List (List ℕ × List ℕ)) (item : List ℕ × List ℕ) → IsItem item → AreItems items → IsItem (slice_index_or items i item)
+pub IsItem-at : (i : ℕ) (items : List (List ℕ × List ℕ)) (item : List ℕ × List ℕ) → IsItem item → AreItems items
+    → IsItem (slice_index_or items i item)
 IsItem-at i [] item is all = is
 IsItem-at zero (x ∷ items) item is all = all.0
 IsItem-at (suc i) (x ∷ items) item is all = IsItem-at i items item is all.1
 
-pub AreItems-set : (i : ℕ) (items : List (List ℕ × List ℕ)) (item : List ℕ × List ℕ) → IsItem item → AreItems items → AreItems (slice_set items i item)
+pub AreItems-set : (i : ℕ) (items : List (List ℕ × List ℕ)) (item : List ℕ × List ℕ) → IsItem item → AreItems items
+    → AreItems (slice_set items i item)
 AreItems-set i [] item is all = all
 AreItems-set zero (x ∷ items) item is all = (is, all.1)
 AreItems-set (suc i) (x ∷ items) item is all = (all.0, AreItems-set i items item is all.1)
 
 -- what is found among items is one of them
-pub IsItem-find : (name text : List ℕ) (items : List (List ℕ × List ℕ)) → AreItems items → find text_cmp name items ≡ Some text → IsItem (name, text)
+pub IsItem-find : (name text : List ℕ) (items : List (List ℕ × List ℕ)) → AreItems items
+    → find text_cmp name items ≡ Some text → IsItem (name, text)
 IsItem-find name text [] all found = cc
 IsItem-find name text (item ∷ items) all found =
     elim (eq_by_cmp text_cmp name item.0) as (λ b. eq_by_cmp text_cmp name item.0 ≡ b → cond b (Some item.1) (find text_cmp name items) ≡ Some text → IsItem (name, text)) [

@@ -14,4 +14,5 @@ abbrev pub same_meta : Meta → Meta → Bool
 same_meta x y = pointwise same_item (map.entries x) (map.entries y)
 
 pub same_meta_equiv : IsEquivalence same_meta
-same_meta_equiv = on_equiv (λ (meta : Meta). map.entries meta) (lists_equiv (and_equiv (on_equiv (λ (x : List ℕ × List ℕ). x.0) nat_list_eq_equiv) (on_equiv (λ (x : List ℕ × List ℕ). x.1) nat_list_eq_equiv)))
+same_meta_equiv =
+    on_equiv (λ (meta : Meta). map.entries meta) (lists_equiv (and_equiv (on_equiv (λ (x : List ℕ × List ℕ). x.0) nat_list_eq_equiv) (on_equiv (λ (x : List ℕ × List ℕ). x.1) nat_list_eq_equiv)))

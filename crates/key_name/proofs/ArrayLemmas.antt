@@ -24,13 +24,15 @@ pub digits_fit : (part : List ℕ) → is_array_like part ≡ true → length (d
 digits_fit part like = omega (arith, length-like part like)
 
 -- the canonical form has as many underscores before its digits as leave the part twice as long as they are
-pub canonical-lead : (part digits : List ℕ) → is_array_like part ≡ true → digits ≡ digits_of part → is_canonical part ≡ (is_index digits && (length part - length digits == length digits))
+pub canonical-lead : (part digits : List ℕ) → is_array_like part ≡ true → digits ≡ digits_of part
+    → is_canonical part ≡ (is_index digits && (length part - length digits == length digits))
 canonical-lead part digits like is =
     let count : underscores_of part + 1 ≡ length part - length digits = omega (arith, length-like part like, ap length is) in
     ap₂ (λ d n. is_index d && (n == length d)) (sym is) count
 
 -- that of a part without underscores is the digits behind the sign
-bare-lead : (part digits : List ℕ) → is_array_like part ≡ true → digits ≡ digits_of part → is_bare part ≡ (is_index digits && (length part - length digits == 1))
+bare-lead : (part digits : List ℕ) → is_array_like part ≡ true → digits ≡ digits_of part
+    → is_bare part ≡ (is_index digits && (length part - length digits == 1))
 bare-lead part digits like is = ap₂ (λ i l. i && l) (ap is_index (sym is)) by
   where
     by : (underscores_of part == 0) ≡ (length part - length digits == 1)
@@ -39,7 +41,9 @@ bare-lead part digits like is = ap₂ (λ i l. i && l) (ap is_index (sym is)) by
       | inr some ↦ ne_eqb _ 0 some ∙ sym (ne_eqb _ 1 (λ e. some (omega (arith, length-like part like, ap length is, e))))
     ]
 
-pub form-lead : (part digits : List ℕ) → is_array_like part ≡ true → digits ≡ digits_of part → is_some (canonical_part part) ≡ (is_index digits && ((length part - length digits == 1) || (length part - length digits == length digits)))
+pub form-lead : (part digits : List ℕ) → is_array_like part ≡ true → digits ≡ digits_of part
+    → is_some (canonical_part part)
+    ≡ (is_index digits && ((length part - length digits == 1) || (length part - length digits == length digits)))
 form-lead part digits like is =
     by (is_canonical part || is_bare part)
     ∙ ap₂ (λ a b. a || b) (canonical-lead part digits like is) (bare-lead part digits like is)
@@ -58,13 +62,15 @@ form-lead part digits like is =
 
 -- ---- what stands at the front
 
-pub without_underscores-none : (bytes : List ℕ) → ((rest : List ℕ) → bytes ≢ 95 ∷ rest) → without_underscores bytes ≡ bytes
+pub without_underscores-none : (bytes : List ℕ) → ((rest : List ℕ) → bytes ≢ 95 ∷ rest)
+    → without_underscores bytes ≡ bytes
 without_underscores-none [] h = refl
 without_underscores-none (b ∷ bytes) h = cond-false (b == 95) _ _ (ne_eqb b 95 (λ e. h bytes (ap (λ b. b ∷ bytes) e)))
 
 pub is_array_like-none : (part : List ℕ) → ((rest : List ℕ) → part ≢ 35 ∷ rest) → is_array_like part ≡ false
 is_array_like-none [] h = refl
-is_array_like-none (b ∷ bytes) h = and_left (b == 35) (are_digits (without_underscores bytes)) (ne_eqb b 35 (λ e. h bytes (ap (λ b. b ∷ bytes) e)))
+is_array_like-none (b ∷ bytes) h =
+    and_left (b == 35) (are_digits (without_underscores bytes)) (ne_eqb b 35 (λ e. h bytes (ap (λ b. b ∷ bytes) e)))
 
 -- ---- no escapes
 
@@ -78,7 +84,8 @@ digits_unescaped (d ∷ digits) h =
     let range = digit_range d both.0 in
     as_it_is d digits (λ e. omega (arith, range.1)) (digits_unescaped digits both.1)
 
-bytes_unescaped : (bytes : List ℕ) → list_all is_ascii_digit (without_underscores bytes) ≡ true → unescaped bytes ≡ Some bytes
+bytes_unescaped : (bytes : List ℕ) → list_all is_ascii_digit (without_underscores bytes) ≡ true
+    → unescaped bytes ≡ Some bytes
 bytes_unescaped [] h = refl
 bytes_unescaped (b ∷ bytes) h =
     elim (cases_Bool (b == 95)) [
@@ -102,7 +109,8 @@ digits_ordinary (d ∷ digits) h =
     let range = digit_range d both.0 in
     (record { no_backslash = λ e. omega (arith, range.1); no_slash = λ e. omega (arith, range.0) }, digits_ordinary digits both.1)
 
-bytes_ordinary : (bytes : List ℕ) → list_all is_ascii_digit (without_underscores bytes) ≡ true → AllByRecursion IsUnescaped bytes
+bytes_ordinary : (bytes : List ℕ) → list_all is_ascii_digit (without_underscores bytes) ≡ true
+    → AllByRecursion IsUnescaped bytes
 bytes_ordinary [] h = tt
 bytes_ordinary (b ∷ bytes) h =
     elim (cases_Bool (b == 95)) [
@@ -139,7 +147,8 @@ from_itself (b ∷ raw) text h ordinary =
         elim (or_cases (c == 92) (c == 47) escapes.0) [ inl e ↦ first.no_backslash (eqb-true c 92 e) | inr e ↦ first.no_slash (eqb-true c 47 e) ]
 
 -- what is unescaped from a raw part that does not look like an array's does not either
-pub is_array_like-unescaped : (raw text : List ℕ) → unescaped raw ≡ Some text → is_array_like raw ≡ false → is_array_like text ≡ false
+pub is_array_like-unescaped : (raw text : List ℕ) → unescaped raw ≡ Some text → is_array_like raw ≡ false
+    → is_array_like text ≡ false
 is_array_like-unescaped raw text h other =
     elim (cases_Bool (is_array_like text)) [
       | inl like ↦ let same = from_itself raw text h (array_ordinary text like) in let both = ap is_array_like same in absurd (cc)
@@ -160,7 +169,9 @@ length_of_some [] h = absurd (h refl)
 length_of_some (b ∷ raw) h = ne_eqb _ 0 (omega arith)
 
 -- the literal parts and the reserved ones are none that looks like an array's
-bad_array-letters : (place : ℕ) (raw : List ℕ) → bad_array (place, raw) ≡ option_and_then (λ text. cond (is_array_like text && is_none (canonical_part text)) (Some place) None) (unescaped raw)
+bad_array-letters : (place : ℕ) (raw : List ℕ)
+    → bad_array (place, raw)
+    ≡ option_and_then (λ text. cond (is_array_like text && is_none (canonical_part text)) (Some place) None) (unescaped raw)
 bad_array-letters place raw =
     let told = λ (r : List ℕ). option_and_then (λ text. cond (is_array_like text && is_none (canonical_part text)) (Some place) None) (unescaped r) in
     let as_text = λ (text : List ℕ) (e : is_text raw text ≡ true). sym (ap told (same_text raw text e)) in
@@ -172,21 +183,33 @@ bad_array-letters place raw =
     (either (is_text raw (92 ∷ codes ".")) _ _ _ (as_text (92 ∷ codes "."))
     (either (is_text raw (92 ∷ codes "..")) _ _ _ (as_text (92 ∷ codes "..")) (by (read_letters raw)))))))
   where
-    refused : (array : Bool) (o : Option Part) (text : Part) → cond (is_none (option_map Adds (cond array o (Some text)))) (Some place) None ≡ cond (array && is_none o) (Some place) None
+    refused : (array : Bool) (o : Option Part) (text : Part)
+        → cond (is_none (option_map Adds (cond array o (Some text)))) (Some place) None
+        ≡ cond (array && is_none o) (Some place) None
     refused true None text = refl
     refused true (Some part) text = refl
     refused false o text = refl
 
-    by : (letters : Result Part ℕ) → option_and_then (λ move. cond (is_none move) (Some place) None) (result_ok (result_map_both (λ text. option_map Adds (part_of_text text)) (λ at. at) letters)) ≡ option_and_then (λ text. cond (is_array_like text && is_none (canonical_part text)) (Some place) None) (result_ok letters)
+    by : (letters : Result Part ℕ)
+        → option_and_then (λ move. cond (is_none move) (Some place) None) (result_ok (result_map_both (λ text. option_map Adds (part_of_text text)) (λ at. at) letters))
+        ≡ option_and_then (λ text. cond (is_array_like text && is_none (canonical_part text)) (Some place) None) (result_ok letters)
     by (Ok text) = refused (is_array_like text) (canonical_part text) text
     by (Err at) = refl
 
 -- so a bad array is told by the raw part itself
-pub bad_array-raw : (place : ℕ) (raw : List ℕ) → bad_array (place, raw) ≡ cond (is_array_like raw && is_none (canonical_part raw)) (Some place) None
+pub bad_array-raw : (place : ℕ) (raw : List ℕ)
+    → bad_array (place, raw) ≡ cond (is_array_like raw && is_none (canonical_part raw)) (Some place) None
 bad_array-raw place raw = bad_array-letters place raw ∙ by (unescaped raw) refl (is_array_like raw) refl
   where
-    by : (o : Option Part) → unescaped raw ≡ o → (like : Bool) → is_array_like raw ≡ like → option_and_then (λ text. cond (is_array_like text && is_none (canonical_part text)) (Some place) None) (unescaped raw) ≡ cond (is_array_like raw && is_none (canonical_part raw)) (Some place) None
-    by o e true like = ap (option_and_then (λ text. cond (is_array_like text && is_none (canonical_part text)) (Some place) None)) (unescaped-array raw like)
-    by None e false like = ap (option_and_then (λ text. cond (is_array_like text && is_none (canonical_part text)) (Some place) None)) e ∙ sym (cond-false _ _ _ (and_left (is_array_like raw) (is_none (canonical_part raw)) like))
+    by : (o : Option Part) → unescaped raw ≡ o → (like : Bool) → is_array_like raw ≡ like
+        → option_and_then (λ text. cond (is_array_like text && is_none (canonical_part text)) (Some place) None) (unescaped raw)
+        ≡ cond (is_array_like raw && is_none (canonical_part raw)) (Some place) None
+    by o e true like =
+        ap (option_and_then (λ text. cond (is_array_like text && is_none (canonical_part text)) (Some place) None)) (unescaped-array raw like)
+    by None e false like =
+        ap (option_and_then (λ text. cond (is_array_like text && is_none (canonical_part text)) (Some place) None)) e
+        ∙ sym (cond-false _ _ _ (and_left (is_array_like raw) (is_none (canonical_part raw)) like))
     by (Some text) e false like =
-        ap (option_and_then (λ text. cond (is_array_like text && is_none (canonical_part text)) (Some place) None)) e ∙ cond-false _ _ _ (and_left (is_array_like text) (is_none (canonical_part text)) (is_array_like-unescaped raw text e like)) ∙ sym (cond-false _ _ _ (and_left (is_array_like raw) (is_none (canonical_part raw)) like))
+        ap (option_and_then (λ text. cond (is_array_like text && is_none (canonical_part text)) (Some place) None)) e
+        ∙ cond-false _ _ _ (and_left (is_array_like text) (is_none (canonical_part text)) (is_array_like-unescaped raw text e like))
+        ∙ sym (cond-false _ _ _ (and_left (is_array_like raw) (is_none (canonical_part raw)) like))

@@ -31,15 +31,20 @@ canonical-spelled part spelled like = by (is_array_like part) (is_canonical part
 
 -- ---- the name
 
-pub IsName-child : (m n : Namespace) (parts : List Part) (part : Part) → IsName (record { namespace = m; parts = parts }) → IsUtf8 part → is_misspelled part ≡ false → position (λ b. b == 0) part ≡ None → length (path_of_parts (parts ++ part ∷ [])) ≤ longest_path → IsName (record { namespace = n; parts = parts ++ part ∷ [] })
+pub IsName-child : (m n : Namespace) (parts : List Part) (part : Part)
+    → IsName (record { namespace = m; parts = parts }) → IsUtf8 part → is_misspelled part ≡ false
+    → position (λ b. b == 0) part ≡ None → length (path_of_parts (parts ++ part ∷ [])) ≤ longest_path
+    → IsName (record { namespace = n; parts = parts ++ part ∷ [] })
 IsName-child m n parts part above utf8 spelled no_nul limit = record {
   parts = all_append IsPart parts (part ∷ []) above.parts (record { utf8 = utf8; no_nul = no_nul-from_position part no_nul; canonical = canonical-spelled part spelled }, tt);
   limit = limit;
 }
 
-pub child_refusal-none : (name : Name) (part : Part) → is_misspelled part ≡ false → position (λ b. b == 0) part ≡ None → length (path (child_of name part)) ≤ longest_path → child_refusal name part ≡ None
+pub child_refusal-none : (name : Name) (part : Part) → is_misspelled part ≡ false → position (λ b. b == 0) part ≡ None
+    → length (path (child_of name part)) ≤ longest_path → child_refusal name part ≡ None
 child_refusal-none name part spelled no_nul limit =
-    cond-false _ _ _ spelled ∙ ap (λ nul. option_or (option_map Nul nul) (too_long_path (child_of name part))) no_nul ∙ cond-false (ltb longest_path (length (path (child_of name part)))) _ _ (false_from_ne_true _ (λ long. let over = ltb-true longest_path (length (path (child_of name part))) long in omega arith))
+    cond-false _ _ _ spelled ∙ ap (λ nul. option_or (option_map Nul nul) (too_long_path (child_of name part))) no_nul
+    ∙ cond-false (ltb longest_path (length (path (child_of name part)))) _ _ (false_from_ne_true _ (λ long. let over = ltb-true longest_path (length (path (child_of name part))) long in omega arith))
 
 -- a length that is given as it is, since it is not beyond the type's end
 pub saturated_short : (bytes given : ℕ) → given ≡ saturated bytes → given ≤ longest_path → given ≡ bytes
@@ -58,11 +63,14 @@ spelled_well part is = by (is_array_like part) (is_canonical part) is.canonical
 accepted : (above : Name) (part : Part) → IsName (child_of above part) → child_refusal above part ≡ None
 accepted above part is =
     let last = (all_back IsPart above.parts (part ∷ []) is.parts).0 in
-    cond-false _ _ _ (spelled_well part last) ∙ ap (λ nul. option_or (option_map Nul nul) (too_long_path (child_of above part))) (position-no_nul part last.no_nul)
+    cond-false _ _ _ (spelled_well part last)
+    ∙ ap (λ nul. option_or (option_map Nul nul) (too_long_path (child_of above part))) (position-no_nul part last.no_nul)
     ∙ cond-false (ltb longest_path (length (path (child_of above part)))) _ _ (false_from_ne_true _ (λ long. let over = ltb-true longest_path (length (path (child_of above part))) long in let limit = is.limit in absurd (omega arith)))
 
 clash : (wrong : Option Refusal) (refusal : Refusal) → wrong ≡ Some refusal → wrong ≡ None → ⊥
 clash wrong refusal e none = absurd cc
 
-pub refused-no_name : (above : Name) (part : Part) (fault : NameFault) → IsChildRefusal above part fault → fault ≢ faults.Memory → IsName (child_of above part) → ⊥
-refused-no_name above part fault refused other is = let refusal = refusal_is _ fault other refused in clash (child_refusal above part) refusal.0 refusal.1 (accepted above part is)
+pub refused-no_name : (above : Name) (part : Part) (fault : NameFault) → IsChildRefusal above part fault
+    → fault ≢ faults.Memory → IsName (child_of above part) → ⊥
+refused-no_name above part fault refused other is =
+    let refusal = refusal_is _ fault other refused in clash (child_refusal above part) refusal.0 refusal.1 (accepted above part is)

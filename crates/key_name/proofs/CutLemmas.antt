@@ -10,12 +10,15 @@ pub drop-next : (xs : List ℕ) (i : ℕ) → i < length xs → drop i xs ≡ ge
 drop-next xs i h = drop-cons xs i 0 h ∙ ap (λ n. get_or xs i 0 ∷ drop n xs) (sym (add-one i))
 
 -- a byte that does not end the first raw part
-pub first_len-next : (is_escaped : Bool) (xs : List ℕ) (i : ℕ) → i < length xs → (not is_escaped && (get_or xs i 0 == 47)) ≡ false → first_len is_escaped (drop i xs) ≡ suc (first_len (not is_escaped && (get_or xs i 0 == 92)) (drop (i + 1) xs))
+pub first_len-next : (is_escaped : Bool) (xs : List ℕ) (i : ℕ) → i < length xs
+    → (not is_escaped && (get_or xs i 0 == 47)) ≡ false
+    → first_len is_escaped (drop i xs) ≡ suc (first_len (not is_escaped && (get_or xs i 0 == 92)) (drop (i + 1) xs))
 first_len-next is_escaped xs i h bare =
     ap (first_len is_escaped) (drop-next xs i h) ∙ cond-false (not is_escaped && (get_or xs i 0 == 47)) 0 _ bare
 
 -- a byte that does
-pub first_len-end : (is_escaped : Bool) (xs : List ℕ) (i : ℕ) → i < length xs → (not is_escaped && (get_or xs i 0 == 47)) ≡ true → first_len is_escaped (drop i xs) ≡ 0
+pub first_len-end : (is_escaped : Bool) (xs : List ℕ) (i : ℕ) → i < length xs
+    → (not is_escaped && (get_or xs i 0 == 47)) ≡ true → first_len is_escaped (drop i xs) ≡ 0
 first_len-end is_escaped xs i h bare =
     ap (first_len is_escaped) (drop-next xs i h) ∙ cond-true (not is_escaped && (get_or xs i 0 == 47)) 0 _ bare
 
@@ -26,7 +29,8 @@ pub record CutsAt (is_escaped : Bool) (bytes : List ℕ) (n : ℕ) : Type 0 wher
   pub more : n < length bytes → raw_parts_from is_escaped bytes ≡ take n bytes ∷ raw_parts (drop (suc n) bytes)
   pub last : n ≡ length bytes → raw_parts_from is_escaped bytes ≡ bytes ∷ []
 
-at_a_slash : (is_escaped : Bool) (b : ℕ) (bytes : List ℕ) → (not is_escaped && (b == 47)) ≡ true → CutsAt is_escaped (b ∷ bytes) 0
+at_a_slash : (is_escaped : Bool) (b : ℕ) (bytes : List ℕ) → (not is_escaped && (b == 47)) ≡ true
+    → CutsAt is_escaped (b ∷ bytes) 0
 at_a_slash is_escaped b bytes h =
     let parts = and_parts (not is_escaped) (b == 47) h in
     let slash = eqb-true b 47 parts.1 in
@@ -38,7 +42,8 @@ at_a_slash is_escaped b bytes h =
       last = λ e. absurd (omega arith);
     }
 
-past_a_byte : (is_escaped : Bool) (b : ℕ) (bytes : List ℕ) (n : ℕ) → (not is_escaped && (b == 47)) ≡ false → CutsAt (not is_escaped && (b == 92)) bytes n → CutsAt is_escaped (b ∷ bytes) (suc n)
+past_a_byte : (is_escaped : Bool) (b : ℕ) (bytes : List ℕ) (n : ℕ) → (not is_escaped && (b == 47)) ≡ false
+    → CutsAt (not is_escaped && (b == 92)) bytes n → CutsAt is_escaped (b ∷ bytes) (suc n)
 past_a_byte is_escaped b bytes n h rest =
     let put = ap (λ cuts. put_before cuts b (raw_parts_from (not is_escaped && (b == 92)) bytes)) h in
     record {
@@ -49,7 +54,13 @@ past_a_byte is_escaped b bytes n h rest =
     }
 
 pub CutsAt-first_len : (is_escaped : Bool) (bytes : List ℕ) → CutsAt is_escaped bytes (first_len is_escaped bytes)
-CutsAt-first_len is_escaped [] = record { within = omega arith; slash = λ h. absurd (omega arith); more = λ h. absurd (omega arith); last = λ _. refl }
+CutsAt-first_len is_escaped [] =
+    record {
+      within = omega arith;
+      slash = λ h. absurd (omega arith);
+      more = λ h. absurd (omega arith);
+      last = λ _. refl;
+    }
 CutsAt-first_len is_escaped (b ∷ bytes) =
     cond_both (not is_escaped && (b == 47)) 0 (suc (first_len (not is_escaped && (b == 92)) bytes)) (λ n. CutsAt is_escaped (b ∷ bytes) n)
     (λ h. at_a_slash is_escaped b bytes h)

@@ -8,7 +8,8 @@ use Rattle.key_name.specs.declared.faults.NameFault.{NameFault}
 use Rattle.key_name.specs.declared.faults.NameFault.TheVariants.{NoNamespace, UnknownNamespace, NoSlash, BadEscape, BadArray, Nul, TooLong, Memory}
 
 -- a fault other than want of memory tells a refusal
-pub refusal_is : (wrong : Option Refusal) (fault : NameFault) → fault ≢ Memory → Tells wrong fault → (refusal : Refusal) × (wrong ≡ Some refusal)
+pub refusal_is : (wrong : Option Refusal) (fault : NameFault) → fault ≢ Memory → Tells wrong fault
+    → (refusal : Refusal) × (wrong ≡ Some refusal)
 refusal_is wrong NoNamespace other h = (_, h other)
 refusal_is wrong UnknownNamespace other h = (_, h other)
 refusal_is wrong NoSlash other h = (_, h other)

@@ -34,22 +34,29 @@ BeginsPart-nuls (part ∷ parts) = refl
 
 -- ---- parts are found again
 
-pub between_nuls-part : (part : Part) (rest : List ℕ) → HasNoNul part → BeginsPart rest → between_nuls (part ++ rest) ≡ part ∷ parts_in rest
+pub between_nuls-part : (part : Part) (rest : List ℕ) → HasNoNul part → BeginsPart rest
+    → between_nuls (part ++ rest) ≡ part ∷ parts_in rest
 between_nuls-part [] [] p h = refl
 between_nuls-part [] (b ∷ rest) p h = subst (λ (b : ℕ). between_nuls (b ∷ rest) ≡ [] ∷ parts_in (b ∷ rest)) (sym h) refl
 between_nuls-part (b ∷ part) rest p h =
-    ap (λ t. cond t ([] ∷ between_nuls (part ++ rest)) (onto_first b (between_nuls (part ++ rest)))) (ne_eqb b 0 (omega (arith, p.0))) ∙ ap (onto_first b) (between_nuls-part part rest p.1 h)
+    ap (λ t. cond t ([] ∷ between_nuls (part ++ rest)) (onto_first b (between_nuls (part ++ rest)))) (ne_eqb b 0 (omega (arith, p.0)))
+    ∙ ap (onto_first b) (between_nuls-part part rest p.1 h)
 
-pub parts_in-append : (parts : List Part) (rest : List ℕ) → AllByRecursion HasNoNul parts → BeginsPart rest → parts_in (behind_nuls parts ++ rest) ≡ parts ++ parts_in rest
+pub parts_in-append : (parts : List Part) (rest : List ℕ) → AllByRecursion HasNoNul parts → BeginsPart rest
+    → parts_in (behind_nuls parts ++ rest) ≡ parts ++ parts_in rest
 parts_in-append [] rest p h = refl
 parts_in-append (part ∷ parts) rest p h =
-    ap between_nuls (append_assoc part (behind_nuls parts) rest) ∙ between_nuls-part part (behind_nuls parts ++ rest) p.0 (BeginsPart-behind_nuls parts rest h) ∙ ap (λ rest. part ∷ rest) (parts_in-append parts rest p.1 h)
+    ap between_nuls (append_assoc part (behind_nuls parts) rest)
+    ∙ between_nuls-part part (behind_nuls parts ++ rest) p.0 (BeginsPart-behind_nuls parts rest h)
+    ∙ ap (λ rest. part ∷ rest) (parts_in-append parts rest p.1 h)
 
 pub parts_in-behind_nuls : (parts : List Part) → AllByRecursion HasNoNul parts → parts_in (behind_nuls parts) ≡ parts
-parts_in-behind_nuls parts p = ap parts_in (sym (append-nil (behind_nuls parts))) ∙ parts_in-append parts [] p tt ∙ append-nil parts
+parts_in-behind_nuls parts p =
+    ap parts_in (sym (append-nil (behind_nuls parts))) ∙ parts_in-append parts [] p tt ∙ append-nil parts
 
 -- what stands between NULs has none
-NoNuls-onto_first : (b : ℕ) (parts : List Part) → 0 < b → AllByRecursion HasNoNul parts → AllByRecursion HasNoNul (onto_first b parts)
+NoNuls-onto_first : (b : ℕ) (parts : List Part) → 0 < b → AllByRecursion HasNoNul parts
+    → AllByRecursion HasNoNul (onto_first b parts)
 NoNuls-onto_first b [] some p = ((some, tt), tt)
 NoNuls-onto_first b (part ∷ parts) some p = ((some, p.0), p.1)
 
@@ -83,25 +90,34 @@ then_assoc Less c l = refl
 then_assoc Equal c l = refl
 then_assoc Greater c l = refl
 
-cmp_part : (p q : Part) (xs ys : List ℕ) → HasNoNul p → HasNoNul q → BeginsPart xs → BeginsPart ys → slice_cmp nat_cmp (p ++ xs) (q ++ ys) ≡ ordering_then (slice_cmp nat_cmp p q) (slice_cmp nat_cmp xs ys)
+cmp_part : (p q : Part) (xs ys : List ℕ) → HasNoNul p → HasNoNul q → BeginsPart xs → BeginsPart ys
+    → slice_cmp nat_cmp (p ++ xs) (q ++ ys) ≡ ordering_then (slice_cmp nat_cmp p q) (slice_cmp nat_cmp xs ys)
 cmp_part [] [] xs ys hp hq hx hy = refl
 cmp_part [] (b ∷ q) [] ys hp hq hx hy = refl
-cmp_part [] (b ∷ q) (x ∷ xs) ys hp hq hx hy = ap (λ o. ordering_then o (slice_cmp nat_cmp xs (q ++ ys))) (ap (λ x. nat_cmp x b) hx ∙ nul_first b hq.0)
+cmp_part [] (b ∷ q) (x ∷ xs) ys hp hq hx hy =
+    ap (λ o. ordering_then o (slice_cmp nat_cmp xs (q ++ ys))) (ap (λ x. nat_cmp x b) hx ∙ nul_first b hq.0)
 cmp_part (a ∷ p) [] xs [] hp hq hx hy = refl
-cmp_part (a ∷ p) [] xs (y ∷ ys) hp hq hx hy = ap (λ o. ordering_then o (slice_cmp nat_cmp (p ++ xs) ys)) (ap (nat_cmp a) hy ∙ nul_last a hp.0)
+cmp_part (a ∷ p) [] xs (y ∷ ys) hp hq hx hy =
+    ap (λ o. ordering_then o (slice_cmp nat_cmp (p ++ xs) ys)) (ap (nat_cmp a) hy ∙ nul_last a hp.0)
 cmp_part (a ∷ p) (b ∷ q) xs ys hp hq hx hy =
-    ap (ordering_then (nat_cmp a b)) (cmp_part p q xs ys hp.1 hq.1 hx hy) ∙ then_assoc (nat_cmp a b) (slice_cmp nat_cmp p q) (slice_cmp nat_cmp xs ys)
+    ap (ordering_then (nat_cmp a b)) (cmp_part p q xs ys hp.1 hq.1 hx hy)
+    ∙ then_assoc (nat_cmp a b) (slice_cmp nat_cmp p q) (slice_cmp nat_cmp xs ys)
 
 -- lists of parts compare as their bytes do
-pub cmp_behind_nuls : (ps qs : List Part) → AllByRecursion HasNoNul ps → AllByRecursion HasNoNul qs → slice_cmp nat_cmp (behind_nuls ps) (behind_nuls qs) ≡ slice_cmp (slice_cmp nat_cmp) ps qs
+pub cmp_behind_nuls : (ps qs : List Part) → AllByRecursion HasNoNul ps → AllByRecursion HasNoNul qs
+    → slice_cmp nat_cmp (behind_nuls ps) (behind_nuls qs) ≡ slice_cmp (slice_cmp nat_cmp) ps qs
 cmp_behind_nuls [] [] hp hq = refl
 cmp_behind_nuls [] (q ∷ qs) hp hq = refl
 cmp_behind_nuls (p ∷ ps) [] hp hq = refl
 cmp_behind_nuls (p ∷ ps) (q ∷ qs) hp hq =
-    cmp_part p q (behind_nuls ps) (behind_nuls qs) hp.0 hq.0 (BeginsPart-nuls ps) (BeginsPart-nuls qs) ∙ ap (ordering_then (slice_cmp nat_cmp p q)) (cmp_behind_nuls ps qs hp.1 hq.1)
+    cmp_part p q (behind_nuls ps) (behind_nuls qs) hp.0 hq.0 (BeginsPart-nuls ps) (BeginsPart-nuls qs)
+    ∙ ap (ordering_then (slice_cmp nat_cmp p q)) (cmp_behind_nuls ps qs hp.1 hq.1)
 
-pub eq_behind_nuls : (ps qs : List Part) → AllByRecursion HasNoNul ps → AllByRecursion HasNoNul qs → pointwise eqb (behind_nuls ps) (behind_nuls qs) ≡ pointwise (pointwise eqb) ps qs
-eq_behind_nuls ps qs hp hq = texts_ties (behind_nuls ps) (behind_nuls qs) ∙ ap is_eq (cmp_behind_nuls ps qs hp hq) ∙ sym (lists_ties (slice_cmp nat_cmp) texts_ties ps qs)
+pub eq_behind_nuls : (ps qs : List Part) → AllByRecursion HasNoNul ps → AllByRecursion HasNoNul qs
+    → pointwise eqb (behind_nuls ps) (behind_nuls qs) ≡ pointwise (pointwise eqb) ps qs
+eq_behind_nuls ps qs hp hq =
+    texts_ties (behind_nuls ps) (behind_nuls qs) ∙ ap is_eq (cmp_behind_nuls ps qs hp hq)
+    ∙ sym (lists_ties (slice_cmp nat_cmp) texts_ties ps qs)
 
 -- ---- a text whose parts are known
 
@@ -119,11 +135,16 @@ seen_as text parts h = ap parts_in h.bytes ∙ parts_in-behind_nuls parts h.no_n
 pub parts_alone : (text : List ℕ) (parts : List Part) → HasParts text parts → text ≡ behind_nuls (parts_in text)
 parts_alone text parts h = h.bytes ∙ ap behind_nuls (sym (seen_as text parts h))
 
-NoNuls-append : (xs ys : List Part) → AllByRecursion HasNoNul xs → AllByRecursion HasNoNul ys → AllByRecursion HasNoNul (xs ++ ys)
+NoNuls-append : (xs ys : List Part) → AllByRecursion HasNoNul xs → AllByRecursion HasNoNul ys
+    → AllByRecursion HasNoNul (xs ++ ys)
 NoNuls-append xs ys p q = all_append HasNoNul xs ys p q
 
 pub HasParts-append : (a b : List ℕ) (xs ys : List Part) → HasParts a xs → HasParts b ys → HasParts (a ++ b) (xs ++ ys)
-HasParts-append a b xs ys p q = record { bytes = ap₂ (λ x y. x ++ y) p.bytes q.bytes ∙ sym (flat_map-append (λ part. 0 ∷ part) xs ys); no_nuls = NoNuls-append xs ys p.no_nuls q.no_nuls }
+HasParts-append a b xs ys p q =
+    record {
+      bytes = ap₂ (λ x y. x ++ y) p.bytes q.bytes ∙ sym (flat_map-append (λ part. 0 ∷ part) xs ys);
+      no_nuls = NoNuls-append xs ys p.no_nuls q.no_nuls;
+    }
 
 pub HasParts-one : (part : Part) → HasNoNul part → HasParts (0 ∷ part) (part ∷ [])
 HasParts-one part h = record { bytes = sym (append-nil (0 ∷ part)); no_nuls = (h, tt) }
@@ -133,21 +154,27 @@ HasParts-at text whole parts e h = record { bytes = e ∙ h.bytes; no_nuls = h.n
 
 -- ---- what is pushed, or isn't where memory is wanted
 
-pub append_either : (pushed : Bool) (old back new : List ℕ) (ps qs : List Part) → HasParts old ps → HasParts back qs → new ≡ cond pushed (old ++ back) old → HasParts new (cond pushed (ps ++ qs) ps)
+pub append_either : (pushed : Bool) (old back new : List ℕ) (ps qs : List Part) → HasParts old ps → HasParts back qs
+    → new ≡ cond pushed (old ++ back) old → HasParts new (cond pushed (ps ++ qs) ps)
 append_either true old back new ps qs p q e = HasParts-at _ _ _ e (HasParts-append old back ps qs p q)
 append_either false old back new ps qs p q e = HasParts-at _ _ _ e p
 
-pub push_either : (pushed : Bool) (old part begun new : List ℕ) (ps : List Part) → HasParts old ps → HasNoNul part → begun ≡ old ++ 0 ∷ [] → new ≡ cond pushed (begun ++ part) begun → HasParts new (cond pushed (ps ++ part ∷ []) (ps ++ [] ∷ []))
+pub push_either : (pushed : Bool) (old part begun new : List ℕ) (ps : List Part) → HasParts old ps → HasNoNul part
+    → begun ≡ old ++ 0 ∷ [] → new ≡ cond pushed (begun ++ part) begun
+    → HasParts new (cond pushed (ps ++ part ∷ []) (ps ++ [] ∷ []))
 push_either true old part begun new ps p q b e =
     HasParts-at _ _ _ (e ∙ ap (λ front. front ++ part) b ∙ append_assoc old (0 ∷ []) part) (HasParts-append old (0 ∷ part) ps (part ∷ []) p (HasParts-one part q))
-push_either false old part begun new ps p q b e = HasParts-at _ _ _ (e ∙ b) (HasParts-append old (0 ∷ []) ps ([] ∷ []) p (HasParts-one [] tt))
+push_either false old part begun new ps p q b e =
+    HasParts-at _ _ _ (e ∙ b) (HasParts-append old (0 ∷ []) ps ([] ∷ []) p (HasParts-one [] tt))
 
-pub seen_if_ok : {A E : Type 0} (r : Result A E) (text : List ℕ) (xs ys : List Part) → HasParts text (cond (is_ok r) xs ys) → OnOk r (parts_in text ≡ xs)
+pub seen_if_ok : {A E : Type 0} (r : Result A E) (text : List ℕ) (xs ys : List Part)
+    → HasParts text (cond (is_ok r) xs ys) → OnOk r (parts_in text ≡ xs)
 seen_if_ok (Ok a) text xs ys h = seen_as text xs h
 seen_if_ok (Err e) text xs ys h = tt
 
 -- each item of a list of texts without NUL has none
-pub no_nul_at : {X : Type 0} (f : X → Part) (xs : List X) (i : ℕ) (x : X) → AllByRecursion HasNoNul (map f xs) → i < length xs → x ≡ get_or xs i x → HasNoNul (f x)
+pub no_nul_at : {X : Type 0} (f : X → Part) (xs : List X) (i : ℕ) (x : X) → AllByRecursion HasNoNul (map f xs)
+    → i < length xs → x ≡ get_or xs i x → HasNoNul (f x)
 no_nul_at f [] i x h lt e = absurd (omega arith)
 no_nul_at f (y ∷ xs) zero x h lt e = subst (λ z. HasNoNul (f z)) (sym e) h.0
 no_nul_at f (y ∷ xs) (suc i) x h lt e = no_nul_at f xs i x h.1 (omega arith) e
@@ -174,14 +201,16 @@ NoNuls-rest xs ys p = all_back HasNoNul xs ys p
 
 module _ (text front : List ℕ) (ps qs : List Part) (p : HasParts text ps) (q : HasParts front qs) where
   -- a text goes on from another where a part begins
-  pub behind_some : (rest : List ℕ) → text ≡ front ++ rest → begins_part rest ≡ true → (starts_with (pointwise eqb) ps qs ≡ true) × (rest ≡ behind_nuls (drop (length qs) ps))
+  pub behind_some : (rest : List ℕ) → text ≡ front ++ rest → begins_part rest ≡ true
+      → (starts_with (pointwise eqb) ps qs ≡ true) × (rest ≡ behind_nuls (drop (length qs) ps))
   behind_some rest e b =
       let split : ps ≡ qs ++ parts_in rest = sym (seen_as text ps p) ∙ ap parts_in (e ∙ ap (λ f. f ++ rest) q.bytes) ∙ parts_in-append qs rest q.no_nuls (begins rest b) in
       let left : drop (length qs) ps ≡ parts_in rest = ap (drop (length qs)) split ∙ drop-front qs (parts_in rest) in
       let bytes : behind_nuls qs ++ rest ≡ behind_nuls qs ++ behind_nuls (parts_in rest) = ap (λ f. f ++ rest) (sym q.bytes) ∙ sym e ∙ p.bytes ∙ ap behind_nuls split ∙ flat_map-append (λ part. 0 ∷ part) qs (parts_in rest) in
       ((starts_is bytes_eq-Decides ps qs _ refl).1 (parts_in rest) split, same_rest (behind_nuls qs) rest _ bytes ∙ ap behind_nuls (sym left))
 
-  pub behind_none : ((rest : List ℕ) → text ≡ front ++ rest → begins_part rest ≡ false) → starts_with (pointwise eqb) ps qs ≡ false
+  pub behind_none : ((rest : List ℕ) → text ≡ front ++ rest → begins_part rest ≡ false)
+      → starts_with (pointwise eqb) ps qs ≡ false
   behind_none none = false_from_ne_true _ (λ yes.
       let split = (starts_is bytes_eq-Decides ps qs _ refl).0 yes in
       let rest = drop (length qs) ps in
@@ -191,16 +220,26 @@ module _ (text front : List ℕ) (ps qs : List Part) (p : HasParts text ps) (q :
       absurd (cc))
 
   -- what is left has the parts that are left
-  pub HasParts-behind : (rest : List ℕ) → (starts_with (pointwise eqb) ps qs ≡ true) × (rest ≡ behind_nuls (drop (length qs) ps)) → HasParts rest (drop (length qs) ps)
+  pub HasParts-behind : (rest : List ℕ)
+      → (starts_with (pointwise eqb) ps qs ≡ true) × (rest ≡ behind_nuls (drop (length qs) ps))
+      → HasParts rest (drop (length qs) ps)
   HasParts-behind rest h =
       let split = (starts_is bytes_eq-Decides ps qs _ refl).0 h.0 in
-      record { bytes = h.1; no_nuls = NoNuls-rest qs (drop (length qs) ps) (subst (AllByRecursion HasNoNul) split p.no_nuls) }
+      record {
+        bytes = h.1;
+        no_nuls = NoNuls-rest qs (drop (length qs) ps) (subst (AllByRecursion HasNoNul) split p.no_nuls);
+      }
 
-  pub found_some : (r : Option (Bor (List ℕ))) → IfSome r (λ rest. (text ≡ front ++ rest.now) × (begins_part rest.now ≡ true)) → IfSome r (λ rest. (starts_with (pointwise eqb) ps qs ≡ true) × (rest.now ≡ behind_nuls (drop (length qs) ps)) × AllByRecursion HasNoNul (drop (length qs) ps))
+  pub found_some : (r : Option (Bor (List ℕ)))
+      → IfSome r (λ rest. (text ≡ front ++ rest.now) × (begins_part rest.now ≡ true))
+      → IfSome r (λ rest. (starts_with (pointwise eqb) ps qs ≡ true) × (rest.now ≡ behind_nuls (drop (length qs) ps)) × AllByRecursion HasNoNul (drop (length qs) ps))
   found_some None h = tt
-  found_some (Some rest) h = let found = behind_some rest.now h.0 h.1 in (found.0, found.1, (HasParts-behind rest.now found).no_nuls)
+  found_some (Some rest) h =
+      let found = behind_some rest.now h.0 h.1 in (found.0, found.1, (HasParts-behind rest.now found).no_nuls)
 
-  pub found_none : (r : Option (Bor (List ℕ))) → IfNone r ((rest : List ℕ) → text ≡ front ++ rest → begins_part rest ≡ false) → IfNone r (starts_with (pointwise eqb) ps qs ≡ false)
+  pub found_none : (r : Option (Bor (List ℕ)))
+      → IfNone r ((rest : List ℕ) → text ≡ front ++ rest → begins_part rest ≡ false)
+      → IfNone r (starts_with (pointwise eqb) ps qs ≡ false)
   found_none None h = behind_none h
   found_none (Some rest) h = tt
 
@@ -213,7 +252,9 @@ module _ (text front : List ℕ) (ps qs : List Part) (p : HasParts text ps) (q :
 -- ---- going over the parts
 
 -- the parts that are still to come, of what stands behind a NUL
-pub parts_to_come : (text : List ℕ) → text ≡ behind_nuls (parts_in text) → (rest : Option (Bor (List ℕ))) → MatchOption rest ((tail : List ℕ) → text ≢ 0 ∷ tail) (λ x. text ≡ 0 ∷ x.now) → option_map_or (λ x. between_nuls x.now) rest [] ≡ parts_in text
+pub parts_to_come : (text : List ℕ) → text ≡ behind_nuls (parts_in text) → (rest : Option (Bor (List ℕ)))
+    → MatchOption rest ((tail : List ℕ) → text ≢ 0 ∷ tail) (λ x. text ≡ 0 ∷ x.now)
+    → option_map_or (λ x. between_nuls x.now) rest [] ≡ parts_in text
 parts_to_come text h (Some x) e = sym (ap parts_in e)
 parts_to_come text h None none = by (parts_in text) h
   where
@@ -221,8 +262,10 @@ parts_to_come text h None none = by (parts_in text) h
     by [] e = refl
     by (part ∷ parts) e = absurd (none _ e)
 
-pub split-none : (letter : ℕ) (text : List ℕ) → ((i : ℕ) → i < length text → get_or text i 0 ≢ letter) → slice_split (λ b. b == letter) text ≡ text ∷ []
-split-none letter text none = slice_split_none (λ b. b == letter) text (λ k d lt. ne_eqb _ letter (λ e. none k lt (get_or_default text k 0 d lt ∙ e)))
+pub split-none : (letter : ℕ) (text : List ℕ) → ((i : ℕ) → i < length text → get_or text i 0 ≢ letter)
+    → slice_split (λ b. b == letter) text ≡ text ∷ []
+split-none letter text none =
+    slice_split_none (λ b. b == letter) text (λ k d lt. ne_eqb _ letter (λ e. none k lt (get_or_default text k 0 d lt ∙ e)))
 
 -- ---- how many there are
 
@@ -241,11 +284,13 @@ slice_get-drop (x ∷ xs) (suc i) = slice_get-drop xs i
 abbrev pub Steps : List Part → Option (Bor Part) → List Part → Type 0
 Steps left next rest = MatchOption next ((left ≡ []) × (rest ≡ [])) (λ part. left ≡ part.now ∷ rest)
 
-pub next_is : (parts left rest : List Part) (i : ℕ) (next : Option (Bor Part)) → left ≡ drop i parts → Steps left next rest → option_map (λ part. part.now) next ≡ slice_get parts i
+pub next_is : (parts left rest : List Part) (i : ℕ) (next : Option (Bor Part)) → left ≡ drop i parts
+    → Steps left next rest → option_map (λ part. part.now) next ≡ slice_get parts i
 next_is parts left rest i None e h = sym (slice_get-drop parts i ∙ ap (λ left. slice_get left 0) (sym e ∙ h.0))
 next_is parts left rest i (Some part) e h = sym (slice_get-drop parts i ∙ ap (λ left. slice_get left 0) (sym e ∙ h))
 
-pub rest_is : (parts left rest : List Part) (i : ℕ) (part : Part) → left ≡ drop i parts → left ≡ part ∷ rest → rest ≡ drop (i + 1) parts
+pub rest_is : (parts left rest : List Part) (i : ℕ) (part : Part) → left ≡ drop i parts → left ≡ part ∷ rest
+    → rest ≡ drop (i + 1) parts
 rest_is parts left rest i part e h = ap (drop 1) (sym h ∙ e) ∙ drop-drop 1 i parts
 
 pub none_left : (parts left : List Part) (i : ℕ) → left ≡ drop i parts → left ≡ [] → length parts ≤ i

@@ -28,35 +28,49 @@ abbrev pub bad_letter_from : Bool → ℕ → List ℕ → Option ℕ
 bad_letter_from true place bytes = bad_letter (place - 1) (92 ∷ bytes)
 bad_letter_from false place bytes = bad_letter place bytes
 
-bad_letter-put : (place bytes letter : ℕ) (rest : Result Part ℕ) → option_map (λ at. place + at) (result_err (put_letter bytes letter rest)) ≡ option_map (λ at. place + bytes + at) (result_err rest)
+bad_letter-put : (place bytes letter : ℕ) (rest : Result Part ℕ)
+    → option_map (λ at. place + at) (result_err (put_letter bytes letter rest))
+    ≡ option_map (λ at. place + bytes + at) (result_err rest)
 bad_letter-put place bytes letter (Ok part) = refl
-bad_letter-put place bytes letter (Err at) = let same : place + (at + bytes) ≡ place + bytes + at = omega arith in ap (λ n. Some n) same
+bad_letter-put place bytes letter (Err at) =
+    let same : place + (at + bytes) ≡ place + bytes + at = omega arith in ap (λ n. Some n) same
 
-step_fine : (waits : Bool) (place b : ℕ) (bytes : List ℕ) → (waits ≡ true → 0 < place) → (waits && not ((b == 92) || (b == 47))) ≡ false → bad_letter_from waits place (b ∷ bytes) ≡ bad_letter_from (not waits && (b == 92)) (place + 1) bytes
+step_fine : (waits : Bool) (place b : ℕ) (bytes : List ℕ) → (waits ≡ true → 0 < place)
+    → (waits && not ((b == 92) || (b == 47))) ≡ false
+    → bad_letter_from waits place (b ∷ bytes) ≡ bad_letter_from (not waits && (b == 92)) (place + 1) bytes
 step_fine false place b bytes behind h =
     elim (cases_eq b 92) [
       | inl e ↦
           let back : place ≡ place + 1 - 1 = omega arith in
-          ap (λ b. bad_letter place (b ∷ bytes)) e ∙ ap (λ p. bad_letter p (92 ∷ bytes)) back ∙ ap (λ t. bad_letter_from t (place + 1) bytes) (sym (eq-eqb b 92 e))
+          ap (λ b. bad_letter place (b ∷ bytes)) e ∙ ap (λ p. bad_letter p (92 ∷ bytes)) back
+          ∙ ap (λ t. bad_letter_from t (place + 1) bytes) (sym (eq-eqb b 92 e))
       | inr other ↦
-          ap (λ r. option_map (λ at. place + at) (result_err r)) (read_letters-plain b bytes other) ∙ bad_letter-put place 1 b (read_letters bytes) ∙ ap (λ t. bad_letter_from t (place + 1) bytes) (sym (ne_eqb b 92 other))
+          ap (λ r. option_map (λ at. place + at) (result_err r)) (read_letters-plain b bytes other)
+          ∙ bad_letter-put place 1 b (read_letters bytes)
+          ∙ ap (λ t. bad_letter_from t (place + 1) bytes) (sym (ne_eqb b 92 other))
     ]
 step_fine true place b bytes behind h =
     let some = behind refl in
     let next : place - 1 + 2 ≡ place + 1 = omega arith in
-    ap (λ r. option_map (λ at. place - 1 + at) (result_err r)) (cond-true ((b == 92) || (b == 47)) _ _ (by ((b == 92) || (b == 47)) h)) ∙ bad_letter-put (place - 1) 2 b (read_letters bytes) ∙ ap (λ p. bad_letter p bytes) next
+    ap (λ r. option_map (λ at. place - 1 + at) (result_err r)) (cond-true ((b == 92) || (b == 47)) _ _ (by ((b == 92) || (b == 47)) h))
+    ∙ bad_letter-put (place - 1) 2 b (read_letters bytes) ∙ ap (λ p. bad_letter p bytes) next
   where
     by : (t : Bool) → not t ≡ false → t ≡ true
     by true h = refl
     by false h = absurd cc
 
 -- a byte that may stand where it does
-pub bad_letter_from-next : (waits : Bool) (place i : ℕ) (text : List ℕ) → i < length text → (waits ≡ true → 0 < i) → (waits && not ((get_or text i 0 == 92) || (get_or text i 0 == 47))) ≡ false → bad_letter_from waits (place + i) (drop i text) ≡ bad_letter_from (not waits && (get_or text i 0 == 92)) (place + i + 1) (drop (i + 1) text)
+pub bad_letter_from-next : (waits : Bool) (place i : ℕ) (text : List ℕ) → i < length text → (waits ≡ true → 0 < i)
+    → (waits && not ((get_or text i 0 == 92) || (get_or text i 0 == 47))) ≡ false
+    → bad_letter_from waits (place + i) (drop i text)
+    ≡ bad_letter_from (not waits && (get_or text i 0 == 92)) (place + i + 1) (drop (i + 1) text)
 bad_letter_from-next waits place i text h behind fine =
-    ap (bad_letter_from waits (place + i)) (drop-next text i h) ∙ step_fine waits (place + i) (get_or text i 0) (drop (i + 1) text) (λ e. omega (arith, behind e)) fine
+    ap (bad_letter_from waits (place + i)) (drop-next text i h)
+    ∙ step_fine waits (place + i) (get_or text i 0) (drop (i + 1) text) (λ e. omega (arith, behind e)) fine
 
 -- a raw part that is none of the literal ones
-pub bad_escape-letters : (place : ℕ) (raw : List ℕ) → raw ≢ 92 ∷ codes "%" → raw ≢ 92 ∷ codes "." → raw ≢ 92 ∷ codes ".." → bad_escape (place, raw) ≡ bad_letter place raw
+pub bad_escape-letters : (place : ℕ) (raw : List ℕ) → raw ≢ 92 ∷ codes "%" → raw ≢ 92 ∷ codes "."
+    → raw ≢ 92 ∷ codes ".." → bad_escape (place, raw) ≡ bad_letter place raw
 bad_escape-letters place raw percent dot dots =
     let as_text = λ (text : List ℕ) (e : is_text raw text ≡ true). sym (ap (bad_letter place) (same_text raw text e)) in
     by_form (λ r. option_map (λ at. place + at) (result_err r)) raw
@@ -67,21 +81,30 @@ bad_escape-letters place raw percent dot dots =
     (either (is_text raw (92 ∷ codes ".")) _ _ _ (λ e. absurd (dot (same_text raw (92 ∷ codes ".") e)))
     (either (is_text raw (92 ∷ codes "..")) _ _ _ (λ e. absurd (dots (same_text raw (92 ∷ codes "..") e))) (by (read_letters raw)))))))
   where
-    by : (letters : Result Part ℕ) → option_map (λ at. place + at) (result_err (result_map_both (λ text. option_map Adds (part_of_text text)) (λ at. at) letters)) ≡ option_map (λ at. place + at) (result_err letters)
+    by : (letters : Result Part ℕ)
+        → option_map (λ at. place + at) (result_err (result_map_both (λ text. option_map Adds (part_of_text text)) (λ at. at) letters))
+        ≡ option_map (λ at. place + at) (result_err letters)
     by (Ok text) = refl
     by (Err at) = refl
 
 -- ---- raw parts
 
 -- what is left of a list begins with its next item
-pub drop-item : {A : Type 0} (xs : List A) (i : ℕ) (x : A) → x ≡ get_or xs i x → i < length xs → drop i xs ≡ x ∷ drop (i + 1) xs
+pub drop-item : {A : Type 0} (xs : List A) (i : ℕ) (x : A) → x ≡ get_or xs i x → i < length xs
+    → drop i xs ≡ x ∷ drop (i + 1) xs
 drop-item xs i x e h = drop-cons xs i x h ∙ ap₂ (λ y n. y ∷ drop n xs) (sym e) (sym (add-one i))
 
 -- the next raw part has no bad array, or it has
-pub bad_arrays-next : (raws : List Raw) (i : ℕ) (raw : Raw) → raw ≡ get_or raws i raw → i < length raws → (is_array_like raw.text.now && is_none (canonical_part raw.text.now)) ≡ false → first_some bad_array (with_places (drop i raws)) ≡ first_some bad_array (with_places (drop (i + 1) raws))
+pub bad_arrays-next : (raws : List Raw) (i : ℕ) (raw : Raw) → raw ≡ get_or raws i raw → i < length raws
+    → (is_array_like raw.text.now && is_none (canonical_part raw.text.now)) ≡ false
+    → first_some bad_array (with_places (drop i raws)) ≡ first_some bad_array (with_places (drop (i + 1) raws))
 bad_arrays-next raws i raw e h fine =
-    ap (λ left. first_some bad_array (with_places left)) (drop-item raws i raw e h) ∙ first_some-none bad_array (raw.at, raw.text.now) (with_places (drop (i + 1) raws)) (bad_array-raw raw.at raw.text.now ∙ cond-false _ _ _ fine)
+    ap (λ left. first_some bad_array (with_places left)) (drop-item raws i raw e h)
+    ∙ first_some-none bad_array (raw.at, raw.text.now) (with_places (drop (i + 1) raws)) (bad_array-raw raw.at raw.text.now ∙ cond-false _ _ _ fine)
 
-pub bad_arrays-bad : (raws : List Raw) (i : ℕ) (raw : Raw) → raw ≡ get_or raws i raw → i < length raws → (is_array_like raw.text.now && is_none (canonical_part raw.text.now)) ≡ true → first_some bad_array (with_places (drop i raws)) ≡ Some raw.at
+pub bad_arrays-bad : (raws : List Raw) (i : ℕ) (raw : Raw) → raw ≡ get_or raws i raw → i < length raws
+    → (is_array_like raw.text.now && is_none (canonical_part raw.text.now)) ≡ true
+    → first_some bad_array (with_places (drop i raws)) ≡ Some raw.at
 bad_arrays-bad raws i raw e h bad =
-    ap (λ left. first_some bad_array (with_places left)) (drop-item raws i raw e h) ∙ first_some-some bad_array (raw.at, raw.text.now) (with_places (drop (i + 1) raws)) raw.at (bad_array-raw raw.at raw.text.now ∙ cond-true _ _ _ bad)
+    ap (λ left. first_some bad_array (with_places left)) (drop-item raws i raw e h)
+    ∙ first_some-some bad_array (raw.at, raw.text.now) (with_places (drop (i + 1) raws)) raw.at (bad_array-raw raw.at raw.text.now ∙ cond-true _ _ _ bad)

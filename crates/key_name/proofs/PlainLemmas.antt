@@ -42,20 +42,24 @@ pub no_nuls : (bytes : List ℕ) → AllByRecursion IsPlainByte bytes → AllByR
 no_nuls [] h = tt
 no_nuls (b ∷ bytes) h = (h.0.some, no_nuls bytes h.1)
 
-unescaped_bytes : (bytes : List ℕ) → AllByRecursion IsPlainByte bytes → AllByRecursion (λ b. b ≢ 47 → IsUnescaped b) bytes
+unescaped_bytes : (bytes : List ℕ) → AllByRecursion IsPlainByte bytes
+    → AllByRecursion (λ b. b ≢ 47 → IsUnescaped b) bytes
 unescaped_bytes [] h = tt
-unescaped_bytes (b ∷ bytes) h = ((λ no_slash. record { no_backslash = h.0.no_escape; no_slash = no_slash }), unescaped_bytes bytes h.1)
+unescaped_bytes (b ∷ bytes) h =
+    ((λ no_slash. record { no_backslash = h.0.no_escape; no_slash = no_slash }), unescaped_bytes bytes h.1)
 
 -- ---- what a raw part means
 
 raw_parts-plain : (bytes : List ℕ) → AllByRecursion IsPlainByte bytes → raw_parts bytes ≡ between_slashes bytes
 raw_parts-plain [] h = refl
 raw_parts-plain (b ∷ bytes) h =
-    ap (λ e. put_before (b == 47) b (raw_parts_from e bytes)) (ne_eqb b 92 h.0.no_escape) ∙ ap (put_before (b == 47) b) (raw_parts-plain bytes h.1)
+    ap (λ e. put_before (b == 47) b (raw_parts_from e bytes)) (ne_eqb b 92 h.0.no_escape)
+    ∙ ap (put_before (b == 47) b) (raw_parts-plain bytes h.1)
 
 unescaped-same : (raw : List ℕ) → AllByRecursion IsUnescaped raw → unescaped raw ≡ Some raw
 unescaped-same [] h = refl
-unescaped-same (b ∷ raw) h = unescaped-plain b raw h.0.no_backslash ∙ ap (option_map (λ part. b ∷ part)) (unescaped-same raw h.1)
+unescaped-same (b ∷ raw) h =
+    unescaped-plain b raw h.0.no_backslash ∙ ap (option_map (λ part. b ∷ part)) (unescaped-same raw h.1)
 
 -- a raw part that stands for itself
 pub record IsOrdinary (raw : List ℕ) : Type 0 where
@@ -93,21 +97,26 @@ meaning-ordinary raw h o =
     ∙ ap (λ text. option_map Adds (option_and_then part_of_text text)) (unescaped-same raw h)
     ∙ ap (option_map Adds) (cond-false _ _ _ o.no_array)
 
-walked-ordinary : (path raws : List Part) → AllByRecursion (AllByRecursion IsUnescaped) raws → AllByRecursion IsOrdinary raws → walked path raws ≡ Some (path ++ raws)
+walked-ordinary : (path raws : List Part) → AllByRecursion (AllByRecursion IsUnescaped) raws
+    → AllByRecursion IsOrdinary raws → walked path raws ≡ Some (path ++ raws)
 walked-ordinary path [] h o = ap (λ p. Some p) (sym (append-nil path))
 walked-ordinary path (raw ∷ raws) h o =
-    ap (option_and_then (λ move. walked (moved path move) raws)) (meaning-ordinary raw h.0 o.0) ∙ walked-ordinary (path ++ raw ∷ []) raws h.1 o.1 ∙ ap (λ p. Some p) (append_assoc path (raw ∷ []) raws)
+    ap (option_and_then (λ move. walked (moved path move) raws)) (meaning-ordinary raw h.0 o.0)
+    ∙ walked-ordinary (path ++ raw ∷ []) raws h.1 o.1 ∙ ap (λ p. Some p) (append_assoc path (raw ∷ []) raws)
 
 -- ---- how it is spelled
 
 spelled-ordinary : (raw : List ℕ) → AllByRecursion IsUnescaped raw → IsOrdinary raw → spelled raw ≡ raw
 spelled-ordinary raw h o = spelled-text raw o.filled o.no_reserved ∙ flat_map-escaped-same raw h
 
-slashed-ordinary : (raws : List Part) → AllByRecursion (AllByRecursion IsUnescaped) raws → AllByRecursion IsOrdinary raws → flat_map (λ p. 47 ∷ spelled p) raws ≡ flat_map (λ raw. 47 ∷ raw) raws
+slashed-ordinary : (raws : List Part) → AllByRecursion (AllByRecursion IsUnescaped) raws
+    → AllByRecursion IsOrdinary raws → flat_map (λ p. 47 ∷ spelled p) raws ≡ flat_map (λ raw. 47 ∷ raw) raws
 slashed-ordinary [] h o = refl
-slashed-ordinary (raw ∷ raws) h o = ap₂ (λ a b. (47 ∷ a) ++ b) (spelled-ordinary raw h.0 o.0) (slashed-ordinary raws h.1 o.1)
+slashed-ordinary (raw ∷ raws) h o =
+    ap₂ (λ a b. (47 ∷ a) ++ b) (spelled-ordinary raw h.0 o.0) (slashed-ordinary raws h.1 o.1)
 
-path_of_slashed : (parts : List Part) (bytes : List ℕ) → flat_map (λ p. 47 ∷ spelled p) parts ≡ 47 ∷ bytes → path_of_parts parts ≡ 47 ∷ bytes
+path_of_slashed : (parts : List Part) (bytes : List ℕ) → flat_map (λ p. 47 ∷ spelled p) parts ≡ 47 ∷ bytes
+    → path_of_parts parts ≡ 47 ∷ bytes
 path_of_slashed [] bytes h = absurd cc
 path_of_slashed (part ∷ parts) bytes h = h
 
@@ -126,10 +135,13 @@ joined_word : (word path : List ℕ) → (word ++ 47 ∷ []) ++ path ≡ word ++
 joined_word word path = append_assoc word (47 ∷ []) path
 
 pub utf8_behind : (namespace : Namespace) (path : List ℕ) → IsUtf8 path → IsUtf8 (text_behind namespace path)
-utf8_behind namespace path h = subst IsUtf8 (joined_word (word_of namespace) path) (IsUtf8-append (word_of namespace ++ 47 ∷ []) path (text_of_word namespace).utf8 h)
+utf8_behind namespace path h =
+    subst IsUtf8 (joined_word (word_of namespace) path) (IsUtf8-append (word_of namespace ++ 47 ∷ []) path (text_of_word namespace).utf8 h)
 
-pub no_nul_behind : (namespace : Namespace) (path : List ℕ) → AllByRecursion (λ b. 0 < b) path → AllByRecursion (λ b. 0 < b) (text_behind namespace path)
-no_nul_behind namespace path h = subst (AllByRecursion (λ b. 0 < b)) (joined_word (word_of namespace) path) (all_append (λ b. 0 < b) (word_of namespace ++ 47 ∷ []) path (text_of_word namespace).no_nul h)
+pub no_nul_behind : (namespace : Namespace) (path : List ℕ) → AllByRecursion (λ b. 0 < b) path
+    → AllByRecursion (λ b. 0 < b) (text_behind namespace path)
+no_nul_behind namespace path h =
+    subst (AllByRecursion (λ b. 0 < b)) (joined_word (word_of namespace) path) (all_append (λ b. 0 < b) (word_of namespace ++ 47 ∷ []) path (text_of_word namespace).no_nul h)
 
 -- ---- what the tests tell
 
@@ -146,7 +158,8 @@ ordinary_parts ((b ∷ part) ∷ parts) h =
     let tests = and_parts (begins_plainly b) (list_all is_plain_part parts) h in
     (begun_plainly b part tests.0, ordinary_parts parts tests.1)
 
-plain_tests : (path : List ℕ) → is_plain path ≡ true → AllByRecursion IsPlainByte path × AllByRecursion IsOrdinary (between_slashes path)
+plain_tests : (path : List ℕ) → is_plain path ≡ true
+    → AllByRecursion IsPlainByte path × AllByRecursion IsOrdinary (between_slashes path)
 plain_tests path h =
     let tests = and_parts (list_all is_plain_byte path) (list_all is_plain_part (between_slashes path)) h in
     (plain_bytes path tests.0, ordinary_parts (between_slashes path) tests.1)
@@ -160,7 +173,8 @@ ahead false parts = drop 1 parts
 
 -- what is left of a path is plain
 abbrev pub plain_rest : Bool → List ℕ → Bool
-plain_rest is_first bytes = list_all is_plain_byte bytes && list_all is_plain_part (ahead is_first (between_slashes bytes))
+plain_rest is_first bytes =
+    list_all is_plain_byte bytes && list_all is_plain_part (ahead is_first (between_slashes bytes))
 
 in_pairs : (a b c d : Bool) → ((a && b) && (c && d)) ≡ ((a && c) && (b && d))
 in_pairs true true c d = refl
@@ -171,16 +185,21 @@ in_pairs false b c d = refl
 rest_next : (is_first is_slash : Bool) (b : ℕ) (bytes : List ℕ) (parts : List Part)
     → (list_all is_plain_byte (b ∷ bytes) && list_all is_plain_part (ahead is_first (cond is_slash ([] ∷ parts) (onto_first b parts))))
     ≡ ((is_plain_byte b && (not is_first || (not is_slash && begins_plainly b))) && (list_all is_plain_byte bytes && list_all is_plain_part (ahead is_slash parts)))
-rest_next true true b bytes parts = in_pairs (is_plain_byte b) (list_all is_plain_byte bytes) false (list_all is_plain_part parts)
+rest_next true true b bytes parts =
+    in_pairs (is_plain_byte b) (list_all is_plain_byte bytes) false (list_all is_plain_part parts)
 rest_next true false b bytes [] = in_pairs (is_plain_byte b) (list_all is_plain_byte bytes) (begins_plainly b) true
-rest_next true false b bytes (part ∷ parts) = in_pairs (is_plain_byte b) (list_all is_plain_byte bytes) (begins_plainly b) (list_all is_plain_part parts)
-rest_next false true b bytes parts = in_pairs (is_plain_byte b) (list_all is_plain_byte bytes) true (list_all is_plain_part parts)
+rest_next true false b bytes (part ∷ parts) =
+    in_pairs (is_plain_byte b) (list_all is_plain_byte bytes) (begins_plainly b) (list_all is_plain_part parts)
+rest_next false true b bytes parts =
+    in_pairs (is_plain_byte b) (list_all is_plain_byte bytes) true (list_all is_plain_part parts)
 rest_next false false b bytes [] = in_pairs (is_plain_byte b) (list_all is_plain_byte bytes) true true
-rest_next false false b bytes (part ∷ parts) = in_pairs (is_plain_byte b) (list_all is_plain_byte bytes) true (list_all is_plain_part parts)
+rest_next false false b bytes (part ∷ parts) =
+    in_pairs (is_plain_byte b) (list_all is_plain_byte bytes) true (list_all is_plain_part parts)
 
 -- the next byte fits, and what is left behind it is plain
 pub plain_rest-next : (is_first : Bool) (b : ℕ) (bytes : List ℕ)
-    → plain_rest is_first (b ∷ bytes) ≡ ((is_plain_byte b && (not is_first || (not (b == 47) && begins_plainly b))) && plain_rest (b == 47) bytes)
+    → plain_rest is_first (b ∷ bytes)
+    ≡ ((is_plain_byte b && (not is_first || (not (b == 47) && begins_plainly b))) && plain_rest (b == 47) bytes)
 plain_rest-next is_first b bytes = rest_next is_first (b == 47) b bytes (between_slashes bytes)
 
 -- at its end a path must not wait for the first byte of a part
@@ -200,7 +219,9 @@ path-plain path h =
     let raws = split_all IsUnescaped path (unescaped_bytes path bytes) in
     path_of_slashed (between_slashes path) path (slashed-ordinary (between_slashes path) raws tests.1 ∙ ap (flat_map (λ raw. 47 ∷ raw)) (sym (raw_parts-plain path bytes)) ∙ slashed-raw_parts false path)
 
-pub Spells-plain : (namespace : Namespace) (path : List ℕ) → IsUtf8 path → is_plain path ≡ true → length path < longest_path → Spells (text_behind namespace path) (record { namespace = namespace; parts = between_slashes path })
+pub Spells-plain : (namespace : Namespace) (path : List ℕ) → IsUtf8 path → is_plain path ≡ true
+    → length path < longest_path
+    → Spells (text_behind namespace path) (record { namespace = namespace; parts = between_slashes path })
 Spells-plain namespace path utf8 h short =
     let tests = plain_tests path h in
     let bytes = tests.0 in
@@ -217,9 +238,12 @@ Spells-plain namespace path utf8 h short =
 
 -- ---- the first NUL of a text is that of its path
 
-first_nul-behind : (front path : List ℕ) → AllByRecursion (λ b. 0 < b) front → position_or_len (λ b. b == 0) (front ++ path) ≡ length front + position_or_len (λ b. b == 0) path
+first_nul-behind : (front path : List ℕ) → AllByRecursion (λ b. 0 < b) front
+    → position_or_len (λ b. b == 0) (front ++ path) ≡ length front + position_or_len (λ b. b == 0) path
 first_nul-behind [] path h = omega arith
-first_nul-behind (b ∷ front) path h = ap (λ t. cond (not t) (1 + position_or_len (λ b. b == 0) (front ++ path)) 0) (ne_eqb b 0 (omega (arith, h.0))) ∙ omega (arith, first_nul-behind front path h.1)
+first_nul-behind (b ∷ front) path h =
+    ap (λ t. cond (not t) (1 + position_or_len (λ b. b == 0) (front ++ path)) 0) (ne_eqb b 0 (omega (arith, h.0)))
+    ∙ omega (arith, first_nul-behind front path h.1)
 
 same_test : (k m n : ℕ) → nat_lt (k + m) (k + n) ≡ nat_lt m n
 same_test k m n =
@@ -232,26 +256,39 @@ shifted : (t : Bool) (k m : ℕ) → cond t (Some (k + m)) None ≡ option_map (
 shifted true k m = refl
 shifted false k m = refl
 
-position-behind : (front path : List ℕ) → AllByRecursion (λ b. 0 < b) front → position (λ b. b == 0) (front ++ path) ≡ option_map (λ at. length front + at) (position (λ b. b == 0) path)
+position-behind : (front path : List ℕ) → AllByRecursion (λ b. 0 < b) front
+    → position (λ b. b == 0) (front ++ path) ≡ option_map (λ at. length front + at) (position (λ b. b == 0) path)
 position-behind front path h =
     let place = position_or_len (λ b. b == 0) path in
-    ap₂ (λ at end. cond (nat_lt at end) (Some at) None) (first_nul-behind front path h) (length-append front path) ∙ ap (λ t. cond t (Some (length front + place)) None) (same_test (length front) place (length path)) ∙ shifted (nat_lt place (length path)) (length front) place
+    ap₂ (λ at end. cond (nat_lt at end) (Some at) None) (first_nul-behind front path h) (length-append front path)
+    ∙ ap (λ t. cond t (Some (length front + place)) None) (same_test (length front) place (length path))
+    ∙ shifted (nat_lt place (length path)) (length front) place
 
-position_behind : (namespace : Namespace) (path : List ℕ) → position (λ b. b == 0) (text_behind namespace path) ≡ option_map (λ at. length (word_of namespace ++ 47 ∷ []) + at) (position (λ b. b == 0) path)
-position_behind namespace path = ap (position (λ b. b == 0)) (sym (joined_word (word_of namespace) path)) ∙ position-behind (word_of namespace ++ 47 ∷ []) path (text_of_word namespace).no_nul
+position_behind : (namespace : Namespace) (path : List ℕ)
+    → position (λ b. b == 0) (text_behind namespace path)
+    ≡ option_map (λ at. length (word_of namespace ++ 47 ∷ []) + at) (position (λ b. b == 0) path)
+position_behind namespace path =
+    ap (position (λ b. b == 0)) (sym (joined_word (word_of namespace) path))
+    ∙ position-behind (word_of namespace ++ 47 ∷ []) path (text_of_word namespace).no_nul
 
-pub nul_behind : (namespace : Namespace) (path : List ℕ) (lead at : ℕ) → lead ≡ length (word_of namespace) + 1 → position (λ b. b == 0) path ≡ Some at → position (λ b. b == 0) (text_behind namespace path) ≡ Some (lead + at)
+pub nul_behind : (namespace : Namespace) (path : List ℕ) (lead at : ℕ) → lead ≡ length (word_of namespace) + 1
+    → position (λ b. b == 0) path ≡ Some at → position (λ b. b == 0) (text_behind namespace path) ≡ Some (lead + at)
 nul_behind namespace path lead at e h =
     let same : length (word_of namespace ++ 47 ∷ []) + at ≡ lead + at = omega (arith, e, length-append (word_of namespace) (47 ∷ [])) in
-    position_behind namespace path ∙ ap (option_map (λ at. length (word_of namespace ++ 47 ∷ []) + at)) h ∙ ap (λ n. Some n) same
+    position_behind namespace path ∙ ap (option_map (λ at. length (word_of namespace ++ 47 ∷ []) + at)) h
+    ∙ ap (λ n. Some n) same
 
-pub no_nul_before : (namespace : Namespace) (path : List ℕ) → position (λ b. b == 0) path ≡ None → position (λ b. b == 0) (text_behind namespace path) ≡ None
-no_nul_before namespace path h = position_behind namespace path ∙ ap (option_map (λ at. length (word_of namespace ++ 47 ∷ []) + at)) h
+pub no_nul_before : (namespace : Namespace) (path : List ℕ) → position (λ b. b == 0) path ≡ None
+    → position (λ b. b == 0) (text_behind namespace path) ≡ None
+no_nul_before namespace path h =
+    position_behind namespace path ∙ ap (option_map (λ at. length (word_of namespace ++ 47 ∷ []) + at)) h
 
 -- a list that is found by a test
-pub if_found : (t : Bool) (found wanted : List Part) → Some found ≡ cond t (Some wanted) None → (t ≡ true) × (found ≡ wanted)
+pub if_found : (t : Bool) (found wanted : List Part) → Some found ≡ cond t (Some wanted) None
+    → (t ≡ true) × (found ≡ wanted)
 if_found true found wanted e = (refl, cc)
 if_found false found wanted e = absurd cc
 
-pub plain_found : (path : List ℕ) (parts : List Part) → Some parts ≡ plain_parts path → (is_plain path ≡ true) × (parts ≡ between_slashes path)
+pub plain_found : (path : List ℕ) (parts : List Part) → Some parts ≡ plain_parts path
+    → (is_plain path ≡ true) × (parts ≡ between_slashes path)
 plain_found path parts e = if_found (is_plain path) parts (between_slashes path) e

@@ -32,12 +32,14 @@ spelled-same (b ∷ part) h =
     (λ _. cond_both (is_reserved (b ∷ part)) (92 ∷ b ∷ part) (flat_map escaped (b ∷ part)) (λ bytes. length bytes ≡ length (b ∷ part) → bytes ≡ b ∷ part) (λ _ g. absurd (omega (arith, g))) (λ _ g. escaped_as_it_is (b ∷ part) g))
     h
 
-slashed-least : (parts : List Part) → length (behind_nuls parts) ≤ length (flat_map (λ (p : Part). 47 ∷ spelled p) parts)
+slashed-least : (parts : List Part)
+    → length (behind_nuls parts) ≤ length (flat_map (λ (p : Part). 47 ∷ spelled p) parts)
 slashed-least [] = omega arith
 slashed-least (part ∷ parts) =
     omega (arith, slashed-least parts, spelled-least part, length-append part (behind_nuls parts), length-append (spelled part) (flat_map (λ (p : Part). 47 ∷ spelled p) parts))
 
-slashed-same : (parts : List Part) → length (flat_map (λ (p : Part). 47 ∷ spelled p) parts) ≡ length (behind_nuls parts) → flat_map (λ (p : Part). 47 ∷ spelled p) parts ≡ behind_slashes parts
+slashed-same : (parts : List Part) → length (flat_map (λ (p : Part). 47 ∷ spelled p) parts) ≡ length (behind_nuls parts)
+    → flat_map (λ (p : Part). 47 ∷ spelled p) parts ≡ behind_slashes parts
 slashed-same [] h = refl
 slashed-same (part ∷ parts) h =
     let more = slashed-least parts in
@@ -48,22 +50,27 @@ slashed-same (part ∷ parts) h =
     ∙ ap (λ bytes. 47 ∷ (part ++ bytes)) (slashed-same parts (omega (arith, h, more, one, left, right)))
 
 -- a path with no more bytes than its parts has them as they are
-pub path-unescaped : (parts : List Part) → length (behind_nuls parts) ≡ length (path_of_parts parts) → path_of_parts parts ≡ behind_slashes parts
+pub path-unescaped : (parts : List Part) → length (behind_nuls parts) ≡ length (path_of_parts parts)
+    → path_of_parts parts ≡ behind_slashes parts
 path-unescaped [] h = absurd (omega (arith, h))
 path-unescaped (part ∷ parts) h = slashed-same (part ∷ parts) (sym h)
 
 part-slashes : (part : Part) → HasNoNul part → map slash_for_nul part ≡ part
 part-slashes [] h = refl
-part-slashes (b ∷ part) h = ap (λ c. c ∷ map slash_for_nul part) (cond-false (b == 0) 47 b (ne_eqb b 0 (omega (arith, h.0)))) ∙ ap (λ bytes. b ∷ bytes) (part-slashes part h.1)
+part-slashes (b ∷ part) h =
+    ap (λ c. c ∷ map slash_for_nul part) (cond-false (b == 0) 47 b (ne_eqb b 0 (omega (arith, h.0))))
+    ∙ ap (λ bytes. b ∷ bytes) (part-slashes part h.1)
 
 -- with slashes for NULs, parts stand behind slashes
-pub slashes-nuls : (parts : List Part) → AllByRecursion HasNoNul parts → map slash_for_nul (behind_nuls parts) ≡ behind_slashes parts
+pub slashes-nuls : (parts : List Part) → AllByRecursion HasNoNul parts
+    → map slash_for_nul (behind_nuls parts) ≡ behind_slashes parts
 slashes-nuls [] h = refl
 slashes-nuls (part ∷ parts) h =
     ap (λ bytes. 47 ∷ bytes) (map-append slash_for_nul part (behind_nuls parts) ∙ ap (λ bytes. bytes ++ map slash_for_nul (behind_nuls parts)) (part-slashes part h.0) ∙ ap (λ bytes. part ++ bytes) (slashes-nuls parts h.1))
 
 -- the text of a list of parts with slashes for NULs
-pub slashes_in : (text : List ℕ) → text ≡ behind_nuls (parts_in text) → behind_slashes (parts_in text) ≡ map slash_for_nul text
+pub slashes_in : (text : List ℕ) → text ≡ behind_nuls (parts_in text)
+    → behind_slashes (parts_in text) ≡ map slash_for_nul text
 slashes_in text h = sym (ap (map slash_for_nul) h ∙ slashes-nuls (parts_in text) (NoNuls-in text))
 
 -- all but the first of them
@@ -78,11 +85,13 @@ behind_first bytes = take_all (length bytes - 1) (drop 1 bytes) (omega (arith, l
 -- ---- what stands between the slashes of a path
 
 -- what holds of the bytes that are no slash holds of those between the slashes
-onto_all : (P : ℕ → Type 0) (b : ℕ) (parts : List Part) → P b → AllByRecursion (AllByRecursion P) parts → AllByRecursion (AllByRecursion P) (onto_first b parts)
+onto_all : (P : ℕ → Type 0) (b : ℕ) (parts : List Part) → P b → AllByRecursion (AllByRecursion P) parts
+    → AllByRecursion (AllByRecursion P) (onto_first b parts)
 onto_all P b [] p h = ((p, tt), tt)
 onto_all P b (part ∷ parts) p h = ((p, h.0), h.1)
 
-pub split_all : (P : ℕ → Type 0) (bytes : List ℕ) → AllByRecursion (λ b. b ≢ 47 → P b) bytes → AllByRecursion (AllByRecursion P) (between_slashes bytes)
+pub split_all : (P : ℕ → Type 0) (bytes : List ℕ) → AllByRecursion (λ b. b ≢ 47 → P b) bytes
+    → AllByRecursion (AllByRecursion P) (between_slashes bytes)
 split_all P [] h = (tt, tt)
 split_all P (b ∷ bytes) h =
     let rest = split_all P bytes h.1 in
@@ -92,7 +101,8 @@ some_bytes : (bytes : List ℕ) → HasNoNul bytes → AllByRecursion (λ b. b �
 some_bytes [] h = tt
 some_bytes (b ∷ bytes) h = ((λ _. h.0), some_bytes bytes h.1)
 
-nuls-onto : (b : ℕ) (parts : List Part) (rest : List ℕ) → behind_nuls parts ≡ 0 ∷ rest → behind_nuls (onto_first b parts) ≡ 0 ∷ b ∷ rest
+nuls-onto : (b : ℕ) (parts : List Part) (rest : List ℕ) → behind_nuls parts ≡ 0 ∷ rest
+    → behind_nuls (onto_first b parts) ≡ 0 ∷ b ∷ rest
 nuls-onto b [] rest h = absurd cc
 nuls-onto b (part ∷ parts) rest h = ap (λ bytes. 0 ∷ b ∷ drop 1 bytes) h
 
@@ -109,8 +119,10 @@ nuls-slashes (b ∷ path) =
           ∙ ap (λ c. 0 ∷ c ∷ map nul_for_slash path) (sym (cond-false (b == 47) 0 b other))
     ]
 
-pub HasParts-slashes : (text path : List ℕ) → HasNoNul path → text ≡ 0 ∷ map nul_for_slash path → HasParts text (between_slashes path)
-HasParts-slashes text path h e = record { bytes = e ∙ sym (nuls-slashes path); no_nuls = split_all (λ b. 0 < b) path (some_bytes path h) }
+pub HasParts-slashes : (text path : List ℕ) → HasNoNul path → text ≡ 0 ∷ map nul_for_slash path
+    → HasParts text (between_slashes path)
+HasParts-slashes text path h e =
+    record { bytes = e ∙ sym (nuls-slashes path); no_nuls = split_all (λ b. 0 < b) path (some_bytes path h) }
 
 -- a text stays one where ASCII stands for ASCII
 pub utf8-nuls : (path : List ℕ) → IsUtf8 path → IsUtf8 (0 ∷ map nul_for_slash path)
@@ -118,11 +130,15 @@ utf8-nuls path h =
     IsUtf8-append (0 ∷ []) (map nul_for_slash path) (IsUtf8-from_ascii (0 ∷ []) (IsAscii-cons 0 [] (omega arith) IsAscii-nil))
     (changed nul_for_slash (λ b low. cond_both (b == 47) 0 b (λ c. c < 128) (λ _. omega arith) (λ _. low)) (λ b high. cond-false (b == 47) 0 b (ne_eqb b 47 (omega (arith, high)))) path h)
 
-turned_more : (f : ℕ → ℕ) (xs : List ℕ) (i : ℕ) → i < length xs → set (map f (take i xs) ++ drop i xs) i (f (get_or (map f (take i xs) ++ drop i xs) i 0)) ≡ map f (take (suc i) xs) ++ drop (suc i) xs
+turned_more : (f : ℕ → ℕ) (xs : List ℕ) (i : ℕ) → i < length xs
+    → set (map f (take i xs) ++ drop i xs) i (f (get_or (map f (take i xs) ++ drop i xs) i 0))
+    ≡ map f (take (suc i) xs) ++ drop (suc i) xs
 turned_more f [] i h = absurd (omega (arith, h))
 turned_more f (x ∷ xs) zero h = refl
 turned_more f (x ∷ xs) (suc i) h = ap (λ ys. f x ∷ ys) (turned_more f xs i (omega (arith, h)))
 
 -- a byte is turned where those before it are
-pub turned_next : (f : ℕ → ℕ) (xs : List ℕ) (i : ℕ) → i < length xs → set (map f (take i xs) ++ drop i xs) i (f (get_or (map f (take i xs) ++ drop i xs) i 0)) ≡ map f (take (i + 1) xs) ++ drop (i + 1) xs
+pub turned_next : (f : ℕ → ℕ) (xs : List ℕ) (i : ℕ) → i < length xs
+    → set (map f (take i xs) ++ drop i xs) i (f (get_or (map f (take i xs) ++ drop i xs) i 0))
+    ≡ map f (take (i + 1) xs) ++ drop (i + 1) xs
 turned_next f xs i h = turned_more f xs i h ∙ ap (λ n. map f (take n xs) ++ drop n xs) (sym (add-one i))

@@ -27,7 +27,8 @@ some_move : (m n : Move) → ◌≡◌ {A = Option Move} (Some m) (Some n) → m
 some_move m n e = cc
 
 -- a raw part that is none of the three that add nothing
-pub meaning-adds : (raw : List ℕ) (move : Move) → raw ≢ [] → raw ≢ codes "." → raw ≢ codes ".." → meaning raw ≡ Some move → (part : Part) × (move ≡ Adds part)
+pub meaning-adds : (raw : List ℕ) (move : Move) → raw ≢ [] → raw ≢ codes "." → raw ≢ codes ".."
+    → meaning raw ≡ Some move → (part : Part) × (move ≡ Adds part)
 meaning-adds raw move filled dot dots h =
     let stays = or_from _ _ (length_of_some raw filled) (other_text raw (codes ".") dot) in
     let ups = other_text raw (codes "..") dots in
@@ -42,7 +43,8 @@ adds_is : (a b : Part) → Adds a ≡ Adds b → a ≡ b
 adds_is a b e = cc
 
 -- a raw part that is none of the reserved ones
-pub meaning-text : (raw : List ℕ) (part : Part) → raw ≢ codes "%" → raw ≢ 92 ∷ codes "%" → raw ≢ 92 ∷ codes "." → raw ≢ 92 ∷ codes ".." → meaning raw ≡ Some (Adds part) → option_and_then part_of_text (unescaped raw) ≡ Some part
+pub meaning-text : (raw : List ℕ) (part : Part) → raw ≢ codes "%" → raw ≢ 92 ∷ codes "%" → raw ≢ 92 ∷ codes "."
+    → raw ≢ 92 ∷ codes ".." → meaning raw ≡ Some (Adds part) → option_and_then part_of_text (unescaped raw) ≡ Some part
 meaning-text raw part empty percent dot dots h =
     branch_taken ((length raw == 0) || is_text raw (codes ".")) _ _ _ (sym (meaning-by_form raw) ∙ h) (λ _ e. absurd (cc))
     (λ h. branch_taken (is_text raw (codes "..")) _ _ _ h (λ _ e. absurd (cc))
@@ -52,15 +54,19 @@ meaning-text raw part empty percent dot dots h =
     (λ h. branch_taken (is_text raw (92 ∷ codes "..")) _ _ _ h (λ t _. absurd (dots (same_text raw (92 ∷ codes "..") t)))
     (λ h. let adds = from_map Adds (option_and_then part_of_text (unescaped raw)) (Adds part) h in adds.1 ∙ ap (λ p. Some p) (adds_is adds.0 part adds.2)))))))
 
-pub part_of_text-array : (raw digits part : List ℕ) → is_array_like raw ≡ true → digits ≡ digits_of raw → option_and_then part_of_text (unescaped raw) ≡ Some part → part ≡ part_of_digits digits
+pub part_of_text-array : (raw digits part : List ℕ) → is_array_like raw ≡ true → digits ≡ digits_of raw
+    → option_and_then part_of_text (unescaped raw) ≡ Some part → part ≡ part_of_digits digits
 part_of_text-array raw digits part like is h =
     let canonical = sym (ap (option_and_then part_of_text) (unescaped-array raw like) ∙ cond-true (is_array_like raw) (canonical_part raw) (Some raw) like) ∙ h in
     (canonical_part-from raw part canonical).is ∙ ap part_of_digits (sym is)
 
-pub part_of_text-plain : (raw part : List ℕ) → is_array_like raw ≡ false → option_and_then part_of_text (unescaped raw) ≡ Some part → unescaped raw ≡ Some part
+pub part_of_text-plain : (raw part : List ℕ) → is_array_like raw ≡ false
+    → option_and_then part_of_text (unescaped raw) ≡ Some part → unescaped raw ≡ Some part
 part_of_text-plain raw part other h =
     let text = from_and_then part_of_text (unescaped raw) part h in
-    text.1 ∙ sym (cond-false (is_array_like text.0) (canonical_part text.0) (Some text.0) (is_array_like-unescaped raw text.0 text.1 other)) ∙ text.2
+    text.1
+    ∙ sym (cond-false (is_array_like text.0) (canonical_part text.0) (Some text.0) (is_array_like-unescaped raw text.0 text.1 other))
+    ∙ text.2
 
 -- ---- escapes
 
@@ -88,39 +94,62 @@ one_letter : (letter left : List ℕ) (b : ℕ) → letter ≡ b ∷ [] → lett
 one_letter letter left b e = ap (λ bytes. bytes ++ left) e
 
 -- a letter that is neither a backslash nor a slash
-pub Leads-ordinary : (waits : Bool) (written left part : List ℕ) (c : ℕ) → c ≢ 92 → c ≢ 47 → Leads waits written (encode_utf8 c ++ left) part → Leads false (written ++ encode_utf8 c) left part
+pub Leads-ordinary : (waits : Bool) (written left part : List ℕ) (c : ℕ) → c ≢ 92 → c ≢ 47
+    → Leads waits written (encode_utf8 c ++ left) part → Leads false (written ++ encode_utf8 c) left part
 Leads-ordinary true written left part c no_backslash no_slash h =
     let none = escapes_no_letter c left no_backslash no_slash in
     let reads = h.reads in
     absurd (cc)
 Leads-ordinary false written left part c no_backslash no_slash h =
     let tail = read_all (encode_utf8 c) left (IsUnescaped-encode_utf8 c no_backslash no_slash) h.rest h.reads in
-    record { rest = tail.0; reads = tail.1; whole = h.whole ∙ ap (λ rest. written ++ rest) tail.2 ∙ sym (append_assoc written (encode_utf8 c) tail.0) }
+    record {
+      rest = tail.0;
+      reads = tail.1;
+      whole = h.whole ∙ ap (λ rest. written ++ rest) tail.2 ∙ sym (append_assoc written (encode_utf8 c) tail.0);
+    }
 
 -- a backslash, which waits or is escaped itself
-pub Leads-backslash : (waits : Bool) (written left part : List ℕ) → Leads waits written (92 ∷ left) part → Leads (not waits) (written ++ cond (not waits) [] (92 ∷ [])) left part
-Leads-backslash false written left part h = record { rest = h.rest; reads = h.reads; whole = h.whole ∙ ap (λ w. w ++ h.rest) (sym (append-nil written)) }
+pub Leads-backslash : (waits : Bool) (written left part : List ℕ) → Leads waits written (92 ∷ left) part
+    → Leads (not waits) (written ++ cond (not waits) [] (92 ∷ [])) left part
+Leads-backslash false written left part h =
+    record { rest = h.rest; reads = h.reads; whole = h.whole ∙ ap (λ w. w ++ h.rest) (sym (append-nil written)) }
 Leads-backslash true written left part h =
     let tail = from_map (λ part. 92 ∷ part) (unescaped left) h.rest (sym (unescaped-escape 92 left) ∙ h.reads) in
-    record { rest = tail.0; reads = tail.1; whole = h.whole ∙ ap (λ rest. written ++ rest) (sym tail.2) ∙ sym (append_assoc written (92 ∷ []) tail.0) }
+    record {
+      rest = tail.0;
+      reads = tail.1;
+      whole = h.whole ∙ ap (λ rest. written ++ rest) (sym tail.2) ∙ sym (append_assoc written (92 ∷ []) tail.0);
+    }
 
-pub Leads-slash : (waits : Bool) (written left part : List ℕ) → Leads waits written (47 ∷ left) part → Leads false (written ++ 47 ∷ []) left part
+pub Leads-slash : (waits : Bool) (written left part : List ℕ) → Leads waits written (47 ∷ left) part
+    → Leads false (written ++ 47 ∷ []) left part
 Leads-slash false written left part h =
     let tail = from_map (λ part. 47 ∷ part) (unescaped left) h.rest (sym (unescaped-next 47 left) ∙ h.reads) in
-    record { rest = tail.0; reads = tail.1; whole = h.whole ∙ ap (λ rest. written ++ rest) (sym tail.2) ∙ sym (append_assoc written (47 ∷ []) tail.0) }
+    record {
+      rest = tail.0;
+      reads = tail.1;
+      whole = h.whole ∙ ap (λ rest. written ++ rest) (sym tail.2) ∙ sym (append_assoc written (47 ∷ []) tail.0);
+    }
 Leads-slash true written left part h =
     let tail = from_map (λ part. 47 ∷ part) (unescaped left) h.rest (sym (unescaped-escape 47 left) ∙ h.reads) in
-    record { rest = tail.0; reads = tail.1; whole = h.whole ∙ ap (λ rest. written ++ rest) (sym tail.2) ∙ sym (append_assoc written (47 ∷ []) tail.0) }
+    record {
+      rest = tail.0;
+      reads = tail.1;
+      whole = h.whole ∙ ap (λ rest. written ++ rest) (sym tail.2) ∙ sym (append_assoc written (47 ∷ []) tail.0);
+    }
 
 leads_at : (m n : Bool) (a b left part : List ℕ) → m ≡ n → a ≡ b → Leads n b left part → Leads m a left part
-leads_at m n a b left part p q h = subst (λ (m : Bool). Leads m a left part) (sym p) (subst (λ (a : List ℕ). Leads n a left part) (sym q) h)
+leads_at m n a b left part p q h =
+    subst (λ (m : Bool). Leads m a left part) (sym p) (subst (λ (a : List ℕ). Leads n a left part) (sym q) h)
 
 and_true : (t b : Bool) → b ≡ true → (t && b) ≡ t
 and_true true b e = e
 and_true false b e = refl
 
 -- the next letter
-pub Leads-next : (waits next : Bool) (written after left part : List ℕ) (c : ℕ) → next ≡ (not waits && (c == 92)) → after ≡ written ++ cond next [] (encode_utf8 c) → Leads waits written (encode_utf8 c ++ left) part → Leads next after left part
+pub Leads-next : (waits next : Bool) (written after left part : List ℕ) (c : ℕ) → next ≡ (not waits && (c == 92))
+    → after ≡ written ++ cond next [] (encode_utf8 c) → Leads waits written (encode_utf8 c ++ left) part
+    → Leads next after left part
 Leads-next waits next written after left part c n a h =
     elim (cases_eq c 92) [
       | inl e ↦
@@ -139,21 +168,27 @@ Leads-next waits next written after left part c n a h =
           ]
     ]
 
-pub letters_push : (letters left : List ℕ) (c : ℕ) → encode_utf8_all letters ++ (encode_utf8 c ++ left) ≡ encode_utf8_all (letters ++ c ∷ []) ++ left
+pub letters_push : (letters left : List ℕ) (c : ℕ)
+    → encode_utf8_all letters ++ (encode_utf8 c ++ left) ≡ encode_utf8_all (letters ++ c ∷ []) ++ left
 letters_push letters left c =
-    sym (append_assoc (encode_utf8_all letters) (encode_utf8 c) left) ∙ ap (λ bytes. (encode_utf8_all letters ++ bytes) ++ left) (sym (append-nil (encode_utf8 c))) ∙ ap (λ bytes. bytes ++ left) (sym (encodes-append letters (c ∷ [])))
+    sym (append_assoc (encode_utf8_all letters) (encode_utf8 c) left)
+    ∙ ap (λ bytes. (encode_utf8_all letters ++ bytes) ++ left) (sym (append-nil (encode_utf8 c)))
+    ∙ ap (λ bytes. bytes ++ left) (sym (encodes-append letters (c ∷ [])))
 
 map_same : (letters : List ℕ) → map (λ c. c) letters ≡ letters
 map_same [] = refl
 map_same (c ∷ letters) = ap (λ rest. c ∷ rest) (map_same letters)
 
 -- all letters of a text
-pub letters_all : (text letters : List ℕ) → IsUtf8 text → map (λ c. c) letters ≡ chars text → encode_utf8_all letters ≡ text
+pub letters_all : (text letters : List ℕ) → IsUtf8 text → map (λ c. c) letters ≡ chars text
+    → encode_utf8_all letters ≡ text
 letters_all text letters utf8 h = ap encode_utf8_all (sym (map_same letters) ∙ h) ∙ encodes-chars text utf8
 
 -- ---- the walk
 
-pub walked-next : (parts after path : List Part) (raws : List Raw) (i : ℕ) (raw : Raw) → raw ≡ get_or raws i raw → i < length raws → ((move : Move) → meaning raw.text.now ≡ Some move → after ≡ moved parts move) → walked parts (texts (drop i raws)) ≡ Some path → walked after (texts (drop (i + 1) raws)) ≡ Some path
+pub walked-next : (parts after path : List Part) (raws : List Raw) (i : ℕ) (raw : Raw) → raw ≡ get_or raws i raw
+    → i < length raws → ((move : Move) → meaning raw.text.now ≡ Some move → after ≡ moved parts move)
+    → walked parts (texts (drop i raws)) ≡ Some path → walked after (texts (drop (i + 1) raws)) ≡ Some path
 walked-next parts after path raws i raw is within moves h =
     let rest = texts (drop (i + 1) raws) in
     let next = ap (λ left. walked parts (texts left)) (drop-item raws i raw is within) in

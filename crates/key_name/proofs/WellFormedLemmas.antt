@@ -21,11 +21,13 @@ slashed parts = flat_map (λ p. 47 ∷ spelled p) parts
 -- ---- lengths
 
 length-escaped-least : (b : ℕ) → 1 ≤ length (escaped b)
-length-escaped-least b = cond_both ((b == 92) || (b == 47)) (92 ∷ b ∷ []) (b ∷ []) (λ bytes. 1 ≤ length bytes) (λ _. omega arith) (λ _. omega arith)
+length-escaped-least b =
+    cond_both ((b == 92) || (b == 47)) (92 ∷ b ∷ []) (b ∷ []) (λ bytes. 1 ≤ length bytes) (λ _. omega arith) (λ _. omega arith)
 
 pub length-all_escaped-least : (part : Part) → length part ≤ length (flat_map escaped part)
 length-all_escaped-least [] = omega arith
-length-all_escaped-least (b ∷ part) = omega (arith, length-escaped-least b, length-all_escaped-least part, length-append (escaped b) (flat_map escaped part))
+length-all_escaped-least (b ∷ part) =
+    omega (arith, length-escaped-least b, length-all_escaped-least part, length-append (escaped b) (flat_map escaped part))
 
 -- each part is spelled in some bytes
 length-spelled-least : (part : Part) → 1 ≤ length (spelled part)
@@ -38,8 +40,10 @@ pub path_some : (parts : List Part) → 0 < length (path_of_parts parts)
 path_some [] = omega arith
 path_some (part ∷ parts) = omega arith
 
-pub length-slashed-append : (front back : List Part) → length (slashed (front ++ back)) ≡ length (slashed front) + length (slashed back)
-length-slashed-append front back = ap length (flat_map-append (λ p. 47 ∷ spelled p) front back) ∙ length-append (slashed front) (slashed back)
+pub length-slashed-append : (front back : List Part)
+    → length (slashed (front ++ back)) ≡ length (slashed front) + length (slashed back)
+length-slashed-append front back =
+    ap length (flat_map-append (λ p. 47 ∷ spelled p) front back) ∙ length-append (slashed front) (slashed back)
 
 pub length-path-back : (front back : List Part) → length (path_of_parts back) ≤ length (path_of_parts (front ++ back))
 length-path-back [] back = omega arith
@@ -48,17 +52,22 @@ length-path-back (part ∷ front) (next ∷ back) = omega (arith, length-slashed
 
 -- ---- well-formed names
 
-pub IsName-drop : (m n : Namespace) (parts : List Part) (k : ℕ) → IsName (record { namespace = m; parts = parts }) → IsName (record { namespace = n; parts = drop k parts })
+pub IsName-drop : (m n : Namespace) (parts : List Part) (k : ℕ) → IsName (record { namespace = m; parts = parts })
+    → IsName (record { namespace = n; parts = drop k parts })
 IsName-drop m n parts k h =
     let whole = take-append-drop k parts in
     let shorter = length-path-back (take k parts) (drop k parts) in
     let same = ap (λ p. length (path_of_parts p)) whole in
-    record { parts = all_back IsPart (take k parts) (drop k parts) (subst (λ (p : List Part). AllByRecursion IsPart p) (sym whole) h.parts); limit = omega (arith, h.limit) }
+    record {
+      parts = all_back IsPart (take k parts) (drop k parts) (subst (λ (p : List Part). AllByRecursion IsPart p) (sym whole) h.parts);
+      limit = omega (arith, h.limit);
+    }
 
 -- ---- below
 
 -- a name at or below another is that one with the rest behind it
-pub joined-way : (above name : Name) → is_at_or_below above name ≡ true → joined above (record { namespace = Cascading; parts = drop (length above.parts) name.parts }) ≡ name
+pub joined-way : (above name : Name) → is_at_or_below above name ≡ true
+    → joined above (record { namespace = Cascading; parts = drop (length above.parts) name.parts }) ≡ name
 joined-way above name e =
     let rest = at_or_below-rest above name e in
     λ i. record { namespace = sym rest.0 i; parts = sym rest.1 i }
@@ -68,7 +77,8 @@ joined-way above name e =
 -- what the lengths of paths say of a list and a front of it that isn't empty
 pub record HasBytesBehind (front rest whole : List Part) : Type 0 where
   pub none : length (path_of_parts whole) ≡ length (path_of_parts front) → length (path_of_parts rest) ≡ 1
-  pub some : length (path_of_parts whole) ≢ length (path_of_parts front) → length (path_of_parts whole) ≡ length (path_of_parts front) + length (path_of_parts rest)
+  pub some : length (path_of_parts whole) ≢ length (path_of_parts front)
+      → length (path_of_parts whole) ≡ length (path_of_parts front) + length (path_of_parts rest)
 
 bytes_behind : (front rest : List Part) → 0 < length front → HasBytesBehind front rest (front ++ rest)
 bytes_behind [] rest some = absurd (omega arith)
@@ -80,16 +90,21 @@ bytes_behind (part ∷ front) (next ∷ rest) some = record {
   some = λ _. omega (arith, length-slashed-append (part ∷ front) (next ∷ rest));
 }
 
-pub bytes_of_rest : (above name : Name) → is_at_or_below above name ≡ true → 0 < length above.parts → HasBytesBehind above.parts (drop (length above.parts) name.parts) name.parts
+pub bytes_of_rest : (above name : Name) → is_at_or_below above name ≡ true → 0 < length above.parts
+    → HasBytesBehind above.parts (drop (length above.parts) name.parts) name.parts
 bytes_of_rest above name e some =
     let rest = drop (length above.parts) name.parts in
     subst (HasBytesBehind above.parts rest) (sym (at_or_below-rest above name e).1) (bytes_behind above.parts rest some)
 
 longer : (front more : List Part) → more ≢ [] → length (path_of_parts front) < length (path_of_parts (front ++ more))
 longer front [] some = absurd (some refl)
-longer [] (part ∷ more) some = omega (arith, length-spelled-least part, length-append (47 ∷ spelled part) (slashed more))
-longer (first ∷ front) (part ∷ more) some = omega (arith, length-slashed-append (first ∷ front) (part ∷ more), path_some (part ∷ more))
+longer [] (part ∷ more) some =
+    omega (arith, length-spelled-least part, length-append (47 ∷ spelled part) (slashed more))
+longer (first ∷ front) (part ∷ more) some =
+    omega (arith, length-slashed-append (first ∷ front) (part ∷ more), path_some (part ∷ more))
 
 -- a name below another has the longer path
-pub below_is_longer : (name above : Name) → IsBelow name above → length (path_of_parts above.parts) < length (path_of_parts name.parts)
-below_is_longer name above below = let same = ap (λ parts. length (path_of_parts parts)) below.parts in omega (arith, same, longer above.parts below.more below.some_more)
+pub below_is_longer : (name above : Name) → IsBelow name above
+    → length (path_of_parts above.parts) < length (path_of_parts name.parts)
+below_is_longer name above below =
+    let same = ap (λ parts. length (path_of_parts parts)) below.parts in omega (arith, same, longer above.parts below.more below.some_more)

@@ -7,8 +7,10 @@ use Rattle.model_names.specs.Name.{Name, rank}
 use Rattle.model_names.specs.Order.{name_cmp, name_eq}
 
 pub name_eq_equiv : IsEquivalence name_eq
-name_eq_equiv = and_equiv (on_equiv (λ (n : Name). rank n.namespace) nat_eq_equiv) (on_equiv (λ (n : Name). n.parts) (lists_equiv nat_list_eq_equiv))
+name_eq_equiv =
+    and_equiv (on_equiv (λ (n : Name). rank n.namespace) nat_eq_equiv) (on_equiv (λ (n : Name). n.parts) (lists_equiv nat_list_eq_equiv))
 
 -- names are equal where they tie
 pub name_ties : (x y : Name) → name_eq x y ≡ eq_by_cmp name_cmp x y
-name_ties x y = both_tied _ _ (nat_cmp (rank x.namespace) (rank y.namespace)) (slice_cmp (slice_cmp nat_cmp) x.parts y.parts) (unsigned_ties (rank x.namespace) (rank y.namespace)) (lists_ties (slice_cmp nat_cmp) texts_ties x.parts y.parts)
+name_ties x y =
+    both_tied _ _ (nat_cmp (rank x.namespace) (rank y.namespace)) (slice_cmp (slice_cmp nat_cmp) x.parts y.parts) (unsigned_ties (rank x.namespace) (rank y.namespace)) (lists_ties (slice_cmp nat_cmp) texts_ties x.parts y.parts)

@@ -64,7 +64,8 @@ pub fn is_bare(is_escaped: bool, byte: u8, wanted: u8) -> bool
 /// What stands before the first of some letter in a text, and what stands behind it.
 pub fn cut_at(text: &str, letter: char) -> (&str, Option<&str>)
     requires { letter < 128 }
-    ensures parts { slice_split (λ b. b == letter) text.now ≡ result.0.now ∷ option_map_or (λ rest. slice_split (λ b. b == letter) rest.now) result.1 [] }
+    ensures parts { slice_split (λ b. b == letter) text.now
+        ≡ result.0.now ∷ option_map_or (λ rest. slice_split (λ b. b == letter) rest.now) result.1 [] }
     ensures behind { IfSome result.1 (λ rest. length rest.now < length text.now) }
 {
     match text.split_once(letter) {

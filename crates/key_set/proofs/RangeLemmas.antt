@@ -63,30 +63,36 @@ module _ (above : Name) where
     PartsBy p i = IsPartitionPoint (λ e. p e.0 ≡ true) (λ e. p e.0 ≡ false) es i
 
     module _ (from to : ℕ) (in_range : from ≤ length es) (begins : PartsBy is_before from) (ends : PartsBy is_not_behind to) where
-      before_outside : (k : ℕ) (d : Name × X) → k < from → k < length es → is_at_or_below above (get_or es k d).0 ≡ false
+      before_outside : (k : ℕ) (d : Name × X) → k < from → k < length es
+          → is_at_or_below above (get_or es k d).0 ≡ false
       before_outside k d lt in_list = before_is_outside _ (begins.0 k d (omega arith) lt)
 
-      within_inside : (k : ℕ) (d : Name × X) → from ≤ k → k < to → k < length es → is_at_or_below above (get_or es k d).0 ≡ true
+      within_inside : (k : ℕ) (d : Name × X) → from ≤ k → k < to → k < length es
+          → is_at_or_below above (get_or es k d).0 ≡ true
       within_inside k d le lt in_list = sym (or_second _ _ (begins.1 k d le in_list)) ∙ ends.0 k d (omega arith) lt
 
       behind_outside : (k : ℕ) (d : Name × X) → to ≤ k → k < length es → is_at_or_below above (get_or es k d).0 ≡ false
       behind_outside k d le in_list = neither _ _ (ends.1 k d le in_list)
 
       pub inside_range : from ≤ to → where_key name_cmp (is_at_or_below above) es ≡ slice_range es from to
-      inside_range le = where_key-range name_cmp (is_at_or_below above) es from to le before_outside within_inside behind_outside
+      inside_range le =
+          where_key-range name_cmp (is_at_or_below above) es from to le before_outside within_inside behind_outside
 
-      pub outside_range : from ≤ to → where_key name_cmp (λ name. not (is_at_or_below above name)) es ≡ remove_range es from to
+      pub outside_range : from ≤ to
+          → where_key name_cmp (λ name. not (is_at_or_below above name)) es ≡ remove_range es from to
       outside_range le = where_key-rest name_cmp (λ name. not (is_at_or_below above name)) es from to le
           (λ k d lt in_list. ap not (before_outside k d lt in_list)) (λ k d ge lt in_list. ap not (within_inside k d ge lt in_list)) (λ k d ge in_list. ap not (behind_outside k d ge in_list))
 
 -- what a list of tests says of each key
-all_at : {A : Type 0} (p : A → Bool) (es : List A) (n k : ℕ) (d : A) → T (list_all p (take n es)) → k < n → k < length es → p (get_or es k d) ≡ true
+all_at : {A : Type 0} (p : A → Bool) (es : List A) (n k : ℕ) (d : A) → T (list_all p (take n es)) → k < n
+    → k < length es → p (get_or es k d) ≡ true
 all_at p [] n k d h lt in_list = absurd (omega arith)
 all_at p (e ∷ es) zero k d h lt in_list = absurd (omega arith)
 all_at p (e ∷ es) (suc n) zero d h lt in_list = true_of _ (first _ _ h)
 all_at p (e ∷ es) (suc n) (suc k) d h lt in_list = all_at p es n k d (second _ _ h) (omega arith) (omega arith)
 
-all_from : {A : Type 0} (p : A → Bool) (es : List A) (n k : ℕ) (d : A) → T (list_all p (drop n es)) → n ≤ k → k < length es → p (get_or es k d) ≡ true
+all_from : {A : Type 0} (p : A → Bool) (es : List A) (n k : ℕ) (d : A) → T (list_all p (drop n es)) → n ≤ k
+    → k < length es → p (get_or es k d) ≡ true
 all_from p [] n k d h le in_list = absurd (omega arith)
 all_from p (e ∷ es) zero zero d h le in_list = true_of _ (first _ _ h)
 all_from p (e ∷ es) zero (suc k) d h le in_list = all_from p es zero k d (second _ _ h) (omega arith) (omega arith)
@@ -137,7 +143,8 @@ module _ (above : Name) {X : Type 0} (es : List (Name × X)) (h : T (is_sorted n
   ]
 
   -- the key at the second place is not at or below the name, and so none behind it is
-  none_behind : (d : Name × X) → is_at_or_below above (get_or es to d).0 ≡ false → to < length es → (k : ℕ) (e : Name × X) → to ≤ k → k < length es → is_not_behind above (get_or es k e).0 ≡ false
+  none_behind : (d : Name × X) → is_at_or_below above (get_or es to d).0 ≡ false → to < length es
+      → (k : ℕ) (e : Name × X) → to ≤ k → k < length es → is_not_behind above (get_or es k e).0 ≡ false
   none_behind d none in_list k e le within =
       elim (is_not_behind above (get_or es k e).0) as (λ b. is_not_behind above (get_or es k e).0 ≡ b → b ≡ false) [
         | true ↦ λ p.
@@ -149,23 +156,27 @@ module _ (above : Name) {X : Type 0} (es : List (Name × X)) (h : T (is_sorted n
 
   module _ (ends : (k : ℕ) (e : Name × X) → to ≤ k → k < length es → is_not_behind above (get_or es k e).0 ≡ false) where
     inside_of : where_key name_cmp (is_at_or_below above) es ≡ slice_range es from to
-    inside_of = inside_range above es h from to (omega arith) begins (λ k d le lt. up_to k d lt (omega arith), ends) order
+    inside_of =
+        inside_range above es h from to (omega arith) begins (λ k d le lt. up_to k d lt (omega arith), ends) order
 
     outside_of : where_key name_cmp (λ name. not (is_at_or_below above name)) es ≡ remove_range es from to
-    outside_of = outside_range above es h from to (omega arith) begins (λ k d le lt. up_to k d lt (omega arith), ends) order
+    outside_of =
+        outside_range above es h from to (omega arith) begins (λ k d le lt. up_to k d lt (omega arith), ends) order
 
   -- where the second place is the end
   pub inside_to_end : length es ≤ to → where_key name_cmp (is_at_or_below above) es ≡ slice_range es from to
   inside_to_end all = inside_of (λ k d le in_list. absurd (omega arith))
 
-  pub outside_to_end : length es ≤ to → where_key name_cmp (λ name. not (is_at_or_below above name)) es ≡ remove_range es from to
+  pub outside_to_end : length es ≤ to
+      → where_key name_cmp (λ name. not (is_at_or_below above name)) es ≡ remove_range es from to
   outside_to_end all = outside_of (λ k d le in_list. absurd (omega arith))
 
   module _ (e : Name × X) (rest : List (Name × X)) (comes : drop to es ≡ e ∷ rest) where
     -- where a key comes that is not at or below the name
     module _ (none : is_at_or_below above e.0 ≡ false) where
       stops : (k : ℕ) (d : Name × X) → to ≤ k → k < length es → is_not_behind above (get_or es k d).0 ≡ false
-      stops = none_behind e (ap (λ key. is_at_or_below above key.0) (next_is es to e rest e comes) ∙ none) (more_left es to e rest comes)
+      stops =
+          none_behind e (ap (λ key. is_at_or_below above key.0) (next_is es to e rest e comes) ∙ none) (more_left es to e rest comes)
 
       pub inside_found : where_key name_cmp (is_at_or_below above) es ≡ slice_range es from to
       inside_found = inside_of stops
@@ -174,7 +185,8 @@ module _ (above : Name) {X : Type 0} (es : List (Name × X)) (h : T (is_sorted n
       outside_found = outside_of stops
 
     -- where one comes that is
-    pub below_more : is_at_or_below above e.0 ≡ true → (k : ℕ) (d : Name × X) → from ≤ k → k < to + 1 → k < length es → is_at_or_below above (get_or es k d).0 ≡ true
+    pub below_more : is_at_or_below above e.0 ≡ true → (k : ℕ) (d : Name × X) → from ≤ k → k < to + 1 → k < length es
+        → is_at_or_below above (get_or es k d).0 ≡ true
     below_more there k d le lt in_list = elim (cases_lt k to) [
       | inl early ↦ below k d le early in_list
       | inr late ↦ let same : k ≡ to = omega arith in ap (λ n. is_at_or_below above (get_or es n d).0) same ∙ ap (λ key. is_at_or_below above key.0) (next_is es to e rest d comes) ∙ there
@@ -204,11 +216,13 @@ key_there (f ∷ es) zero e d there = cc
 key_there (f ∷ es) (suc n) e d there = key_there es n e d there
 
 -- where the last key is at or below a name, so are all from the name's place on
-pub below_to_end : (above : Name) {X : Type 0} (es : List (Name × X)) (h : T (is_sorted name_cmp es)) (from : ℕ) (within : from ≤ length es)
+pub below_to_end : (above : Name) {X : Type 0} (es : List (Name × X)) (h : T (is_sorted name_cmp es)) (from : ℕ)
+    (within : from ≤ length es)
     (before : T (all_before name_cmp above (take from es))) (behind : T (none_before name_cmp above (drop from es)))
     → ((d : Name × X) → is_at_or_below above (get_or es (length es - 1) d).0 ≡ true)
     → (k : ℕ) (d : Name × X) → from ≤ k → k < length es → is_at_or_below above (get_or es k d).0 ≡ true
 below_to_end above es h from within before behind last k d le in_list =
     let starts : PartsBy above es h (is_before above) from = begins above es h from from (omega arith) within before behind (λ j e ge lt in_es. absurd (omega arith)) in
     let end : is_not_behind above (get_or es (length es - 1) d).0 ≡ true = or_right _ _ (last d) in
-    sym (or_second _ _ (starts.1 k d le in_list)) ∙ parted_behind above es h k (length es - 1) d (omega arith) (omega arith) end
+    sym (or_second _ _ (starts.1 k d le in_list))
+    ∙ parted_behind above es h k (length es - 1) d (omega arith) (omega arith) end

@@ -25,19 +25,25 @@ use Rattle.key_set.proofs.WithAllLemmas.{with_all-none, with_keys-append}
 abbrev pub is_cascading : {X : Type 0} → Name × X → Type 0
 is_cascading key = key.0.namespace ≡ Cascading
 
-pub cascading-seen : (keys : Keys) → AllByRecursion is_cascading (seen name_cmp entry_of keys) → AllByRecursion is_cascading keys
+pub cascading-seen : (keys : Keys) → AllByRecursion is_cascading (seen name_cmp entry_of keys)
+    → AllByRecursion is_cascading keys
 cascading-seen [] h = tt
 cascading-seen (key ∷ keys) h = (h.0, cascading-seen keys h.1)
 
 module _ (point : Name) where
-  seen-whole : (keys : Keys) → seen name_cmp entry_of (over (with_other (joined point)) keys) ≡ over (as_whole point) (seen name_cmp entry_of keys)
+  seen-whole : (keys : Keys)
+      → seen name_cmp entry_of (over (with_other (joined point)) keys)
+      ≡ over (as_whole point) (seen name_cmp entry_of keys)
   seen-whole [] = refl
   seen-whole (key ∷ keys) = ap (λ es. (joined point key.0, entry_of key.1) ∷ es) (seen-whole keys)
 
-  pub fit-keys : (keys : Keys) → T (is_sorted name_cmp keys) → list_all (λ (key : Key). has_whole point key.0) keys ≡ all_fit point (keys_of keys)
-  fit-keys keys h = sym (ap (list_all (fits point)) (entries-keys keys h) ∙ list_all-map (fits point) (λ (key : Key). (key.0, entry_of key.1)) keys)
+  pub fit-keys : (keys : Keys) → T (is_sorted name_cmp keys)
+      → list_all (λ (key : Key). has_whole point key.0) keys ≡ all_fit point (keys_of keys)
+  fit-keys keys h =
+      sym (ap (list_all (fits point)) (entries-keys keys h) ∙ list_all-map (fits point) (λ (key : Key). (key.0, entry_of key.1)) keys)
 
-  pub whole-keys : (keys : Keys) → T (is_sorted name_cmp keys) → AllByRecursion is_cascading keys → keys_of (over (with_other (joined point)) keys) ≡ whole point (keys_of keys)
+  pub whole-keys : (keys : Keys) → T (is_sorted name_cmp keys) → AllByRecursion is_cascading keys
+      → keys_of (over (with_other (joined point)) keys) ≡ whole point (keys_of keys)
   whole-keys keys h cascading =
       let made : Keys = over (with_other (joined point)) keys in
       let sorted : T (is_sorted name_cmp made) = sorted-turned name_cmp (joined point) (λ (n : Name). n.namespace ≡ Cascading) (joined_order point) keys cascading h in
@@ -52,7 +58,9 @@ none_if false x e = refl
 -- ---- under the names that lead there
 
 -- the first of some keys, and then the others
-pub relative-next : (point : Name) (e : Name × Entry) (es : List (Name × Entry)) (keys : KeyMap) → with_keys (filter_map (as_way point) es) (with_keys (filter_map (as_way point) (e ∷ [])) keys) ≡ with_keys (filter_map (as_way point) (e ∷ es)) keys
+pub relative-next : (point : Name) (e : Name × Entry) (es : List (Name × Entry)) (keys : KeyMap)
+    → with_keys (filter_map (as_way point) es) (with_keys (filter_map (as_way point) (e ∷ [])) keys)
+    ≡ with_keys (filter_map (as_way point) (e ∷ es)) keys
 relative-next point e es keys =
     sym (with_keys-append (filter_map (as_way point) (e ∷ [])) (filter_map (as_way point) es) keys)
     ∙ ap (λ all. with_keys all keys) (sym (filter_map-append (as_way point) (e ∷ []) es))

@@ -22,12 +22,14 @@ use Rattle.general_words.proofs.Entries.{find-below}
 use Rattle.general_words.proofs.Searches.{or_none}
 
 -- others in two lists, one set after the other
-pub with_keys-append : (es fs : List (Name × Entry)) (keys : KeyMap) → with_keys (es ++ fs) keys ≡ with_keys fs (with_keys es keys)
+pub with_keys-append : (es fs : List (Name × Entry)) (keys : KeyMap)
+    → with_keys (es ++ fs) keys ≡ with_keys fs (with_keys es keys)
 with_keys-append [] fs keys = refl
 with_keys-append (e ∷ es) fs keys = with_keys-append es fs (map.insert keys e.0 e.1)
 
 -- what is found among keys with others: the others' entry, and else the keys'
-get-with_keys : (others : List (Name × Entry)) (keys : KeyMap) (name : Name) → T (is_sorted name_cmp others) → map.get (with_keys others keys) name ≡ option_or (find name_cmp name others) (map.get keys name)
+get-with_keys : (others : List (Name × Entry)) (keys : KeyMap) (name : Name) → T (is_sorted name_cmp others)
+    → map.get (with_keys others keys) name ≡ option_or (find name_cmp name others) (map.get keys name)
 get-with_keys [] keys name h = refl
 get-with_keys (other ∷ others) keys name h =
     get-with_keys others (map.insert keys other.0 other.1) name (second _ _ h)
@@ -39,20 +41,24 @@ get-with_keys (other ∷ others) keys name h =
       | false ↦ λ is. refl
     ] refl
 
-pub get-with_all : (others keys : KeyMap) (name : Name) → map.get (with_all others keys) name ≡ option_or (map.get others name) (map.get keys name)
+pub get-with_all : (others keys : KeyMap) (name : Name)
+    → map.get (with_all others keys) name ≡ option_or (map.get others name) (map.get keys name)
 get-with_all others keys name =
     get-with_keys (map.entries others) keys name (map.entries_sorted others)
     ∙ ap (λ found. option_or found (map.get keys name)) (sym (map.get-entries others name))
 
-put_all-keys : (others keys : Keys) → T (is_sorted name_cmp keys) → keys_of (put_all name_cmp others keys) ≡ with_keys (seen name_cmp entry_of others) (keys_of keys)
+put_all-keys : (others keys : Keys) → T (is_sorted name_cmp keys)
+    → keys_of (put_all name_cmp others keys) ≡ with_keys (seen name_cmp entry_of others) (keys_of keys)
 put_all-keys [] keys h = refl
 put_all-keys (other ∷ others) keys h =
     put_all-keys others (put name_cmp other.0 other.1 keys) (is_sorted-put name_cmp name_cmp_total other.0 other.1 keys h)
     ∙ ap (with_keys (seen name_cmp entry_of others)) (put-keys keys other.0 other.1 h)
 
 -- entries that are put among others make the map with all of them
-pub with_all-keys : (others keys : Keys) → T (is_sorted name_cmp others) → T (is_sorted name_cmp keys) → keys_of (put_all name_cmp others keys) ≡ with_all (keys_of others) (keys_of keys)
-with_all-keys others keys g h = put_all-keys others keys h ∙ ap (λ es. with_keys es (keys_of keys)) (sym (entries-keys others g))
+pub with_all-keys : (others keys : Keys) → T (is_sorted name_cmp others) → T (is_sorted name_cmp keys)
+    → keys_of (put_all name_cmp others keys) ≡ with_all (keys_of others) (keys_of keys)
+with_all-keys others keys g h =
+    put_all-keys others keys h ∙ ap (λ es. with_keys es (keys_of keys)) (sym (entries-keys others g))
 
 -- others set among no keys are the others
 pub with_all-none : (others keys : KeyMap) → length (map.entries keys) ≡ 0 → others ≡ with_all others keys

@@ -23,7 +23,9 @@ abbrev pub same_keys : KeyMap → KeyMap → Bool
 same_keys x y = pointwise same_key (map.entries x) (map.entries y)
 
 pub same_entry_equiv : IsEquivalence same_entry
-same_entry_equiv = and_equiv (on_equiv (λ (x : Entry). x.value) nat_list_eq_equiv) (on_equiv (λ (x : Entry). x.meta) same_meta_equiv)
+same_entry_equiv =
+    and_equiv (on_equiv (λ (x : Entry). x.value) nat_list_eq_equiv) (on_equiv (λ (x : Entry). x.meta) same_meta_equiv)
 
 pub same_keys_equiv : IsEquivalence same_keys
-same_keys_equiv = on_equiv (λ (keys : KeyMap). map.entries keys) (lists_equiv (and_equiv (on_equiv (λ (x : Name × Entry). x.0) name_eq_equiv) (on_equiv (λ (x : Name × Entry). x.1) same_entry_equiv)))
+same_keys_equiv =
+    on_equiv (λ (keys : KeyMap). map.entries keys) (lists_equiv (and_equiv (on_equiv (λ (x : Name × Entry). x.0) name_eq_equiv) (on_equiv (λ (x : Name × Entry). x.1) same_entry_equiv)))

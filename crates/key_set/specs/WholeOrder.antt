@@ -12,11 +12,15 @@ use Rattle.model_names.specs.Name.{Name, rank}
 use Rattle.model_names.specs.Order.{name_cmp}
 
 -- what stands behind a common front decides
-cmp_behind : {A : Type 0} {R : A → A → Ordering} (total : IsTotalOrder R) (front xs ys : List A) → slice_cmp R (front ++ xs) (front ++ ys) ≡ slice_cmp R xs ys
+cmp_behind : {A : Type 0} {R : A → A → Ordering} (total : IsTotalOrder R) (front xs ys : List A)
+    → slice_cmp R (front ++ xs) (front ++ ys) ≡ slice_cmp R xs ys
 cmp_behind total [] xs ys = refl
-cmp_behind {R} total (x ∷ front) xs ys = ap (λ r. ordering_then r (slice_cmp R (front ++ xs) (front ++ ys))) (tied_itself total x) ∙ cmp_behind total front xs ys
+cmp_behind {R} total (x ∷ front) xs ys =
+    ap (λ r. ordering_then r (slice_cmp R (front ++ xs) (front ++ ys))) (tied_itself total x)
+    ∙ cmp_behind total front xs ys
 
-pub joined_order : (point x y : Name) → x.namespace ≡ Cascading → y.namespace ≡ Cascading → name_cmp x y ≡ Less → name_cmp (joined point x) (joined point y) ≡ Less
+pub joined_order : (point x y : Name) → x.namespace ≡ Cascading → y.namespace ≡ Cascading → name_cmp x y ≡ Less
+    → name_cmp (joined point x) (joined point y) ≡ Less
 joined_order point x y first second lt =
     let tied : nat_cmp (rank x.namespace) (rank y.namespace) ≡ Equal = (λ i. nat_cmp (rank (first i)) (rank (second i))) ∙ tied_itself nat_cmp_total (rank Cascading) in
     ap (λ r. ordering_then r (slice_cmp (slice_cmp nat_cmp) (point.parts ++ x.parts) (point.parts ++ y.parts))) (tied_itself nat_cmp_total (rank point.namespace))

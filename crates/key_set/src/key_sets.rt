@@ -169,5 +169,6 @@ pub fn equal_sets_are_the_same_map()
 
 /// Of keys with others set among them, a name has the others' entry, and else the keys' own.
 pub fn the_keys_set_last_are_found()
-    ensures { (others keys : KeyMap) (name : Name) → map.get (with_all others keys) name ≡ option_or (map.get others name) (map.get keys name) }
+    ensures { (others keys : KeyMap) (name : Name)
+        → map.get (with_all others keys) name ≡ option_or (map.get others name) (map.get keys name) }
 {}

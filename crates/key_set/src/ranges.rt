@@ -14,7 +14,8 @@ pub fn range_below(keys: &ChunkedMap<KeyName, Entry>, at: &KeyName) -> (usize, u
     ensures order { result.0 ≤ result.1 }
     ensures bounds { result.1 ≤ length keys.now }
     ensures inside { where_key name_cmp (is_at_or_below at.now) keys.now ≡ slice_range keys.now result.0 result.1 }
-    ensures outside { where_key name_cmp (λ name. not (is_at_or_below at.now name)) keys.now ≡ remove_range keys.now result.0 result.1 }
+    ensures outside { where_key name_cmp (λ name. not (is_at_or_below at.now name)) keys.now
+        ≡ remove_range keys.now result.0 result.1 }
 {
     let from = keys.count_before(at);
     if is_last_below(keys, at) {
@@ -32,7 +33,8 @@ pub fn range_below(keys: &ChunkedMap<KeyName, Entry>, at: &KeyName) -> (usize, u
 
 /// Whether the last key is a name or below it. Then all are that do not stand before that name.
 fn is_last_below(keys: &ChunkedMap<KeyName, Entry>, at: &KeyName) -> bool
-    ensures below { result ≡ true → (d : _) → is_at_or_below at.now (slice_index_or keys.now (length keys.now - 1) d).0 ≡ true }
+    ensures below { result ≡ true → (d : _)
+        → is_at_or_below at.now (slice_index_or keys.now (length keys.now - 1) d).0 ≡ true }
     ensures some { result ≡ true → 0 < length keys.now }
 {
     let len = keys.len();

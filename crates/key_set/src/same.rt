@@ -12,7 +12,8 @@ use key_name::KeyName;
 
 /// The names and the entries of two maps are the same, one after another.
 pub fn have_same(keys: &ChunkedMap<KeyName, Entry>, others: &ChunkedMap<KeyName, Entry>) -> bool
-    ensures same { result ≡ pointwise (λ x y. name_eq x.0 y.0 && same_entry (entry_of x.1) (entry_of y.1)) keys.now others.now }
+    ensures same { result
+        ≡ pointwise (λ x y. name_eq x.0 y.0 && same_entry (entry_of x.1) (entry_of y.1)) keys.now others.now }
     ensures sorted { T (is_sorted name_cmp keys.now) }
     ensures others_sorted { T (is_sorted name_cmp others.now) }
 {

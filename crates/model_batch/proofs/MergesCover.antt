@@ -96,7 +96,9 @@ module _ (number : ℕ) (history : List Commit) (formats : Formats) (files : Lis
     pub rec_is : new.rec ≡ old.rec
     pub told_is : new.told ≡ length past
 
-  met : (keys : KeyMap) (old new : Session) (mount : Name) (by front : ℕ) → IsJudgedThen formats store number history parent keys old (set_reply (Err (Conflict mount by front))) new → Meets old new by
+  met : (keys : KeyMap) (old new : Session) (mount : Name) (by front : ℕ)
+      → IsJudgedThen formats store number history parent keys old (set_reply (Err (Conflict mount by front))) new
+      → Meets old new by
   met keys old new mount by front h =
       let set : Prepared = set_by store number old parent keys in
       let same : h.result ≡ Err (Conflict mount by front) = sym (result-back h.result) ∙ ap result_in (sym h.reply_is) in
@@ -122,7 +124,9 @@ module _ (number : ℕ) (history : List Commit) (formats : Formats) (files : Lis
     pub anothers : IsAnothers number history by
     pub more : count_of_others number (take from history) + 1 ≤ count_of_others number (take to history)
 
-  counts : (old new : Session) (by : ℕ) (meets : Meets old new by) (from to : ℕ) → NoneBetween number history old.told (length meets.past) → Covers number history store old.rec old.told → SeesTo involved from old.rec
+  counts : (old new : Session) (by : ℕ) (meets : Meets old new by) (from to : ℕ)
+      → NoneBetween number history old.told (length meets.past) → Covers number history store old.rec old.told
+      → SeesTo involved from old.rec
       → new.told ≤ to → Counts from to by
   counts old new by meets from to none covers sees le =
       let cover : Cover store number meets.past (front_in old.rec) = past-cover number history store meets.past old.rec old.told meets.begins none covers in
@@ -148,15 +152,25 @@ module _ (number : ℕ) (history : List Commit) (formats : Formats) (files : Lis
       pub enough : length before ≤ count_of_others number (take reach history)
 
     no-way : (s : Session) → from ≤ s.told → Covers number history store s.rec s.told → Way [] s
-    no-way s le covers = record { least = le; covers = covers; anothers = tt; reach = 0; sees = λ m front among is. omega arith; enough = omega arith }
+    no-way s le covers =
+        record {
+          least = le;
+          covers = covers;
+          anothers = tt;
+          reach = 0;
+          sees = λ m front among is. omega arith;
+          enough = omega arith;
+        }
 
-    retry-back : (top : ℕ) (old new : Session) (ours : KeyMap) (item : Tried) (base theirs : KeyMap) → Retry old ours item new base theirs → new.told ≤ top → old.told ≤ top
+    retry-back : (top : ℕ) (old new : Session) (ours : KeyMap) (item : Tried) (base theirs : KeyMap)
+        → Retry old ours item new base theirs → new.told ≤ top → old.told ≤ top
     retry-back top old new ours item base theirs h le =
         let set = set-later formats store number history parent ours old h.mid (set_reply (Err (Conflict item.mount item.by item.front))) (inl h.conflict) in
         let now : new.told ≡ length h.past = ap (λ (s : Session). s.told) h.new_is in
         omega (arith, set.0, h.no_less, now, le)
 
-    retry-way : (top : ℕ) → NoneBetween number history from top → (before : List Tried) (old new : Session) (ours : KeyMap) (item : Tried) (base theirs : KeyMap)
+    retry-way : (top : ℕ) → NoneBetween number history from top
+        → (before : List Tried) (old new : Session) (ours : KeyMap) (item : Tried) (base theirs : KeyMap)
         → Retry old ours item new base theirs → new.told ≤ top → Way before old → Way (before ++ item ∷ []) new
     retry-way top none before old new ours item base theirs h le way =
         let meets : Meets old h.mid item.by = met ours old h.mid item.mount item.by item.front h.conflict in
@@ -175,13 +189,15 @@ module _ (number : ℕ) (history : List Commit) (formats : Formats) (files : Lis
         }
       where
         -- none of its own stands from the first state up to what the set and the get found
-        none_got : (h : Retry old ours item new base theirs) → new.told ≤ top → Way before old → NoneBetween number history old.told (length h.past)
+        none_got : (h : Retry old ours item new base theirs) → new.told ≤ top → Way before old
+            → NoneBetween number history old.told (length h.past)
         none_got h le way place commit there own least =
             let now : new.told ≡ length h.past = ap (λ (s : Session). s.told) h.new_is in
             let far : top ≤ place = none place commit there own (omega (arith, way.least, least)) in
             omega (arith, far, now, le)
 
-        none_set : (h : Retry old ours item new base theirs) → new.told ≤ top → Way before old → (meets : Meets old h.mid item.by) → NoneBetween number history old.told (length meets.past)
+        none_set : (h : Retry old ours item new base theirs) → new.told ≤ top → Way before old
+            → (meets : Meets old h.mid item.by) → NoneBetween number history old.told (length meets.past)
         none_set h le way meets place commit there own least =
             let far : length h.past ≤ place = none_got h le way place commit there own least in
             omega (arith, far, meets.told_is, h.no_less)
@@ -207,7 +223,8 @@ module _ (number : ℕ) (history : List Commit) (formats : Formats) (files : Lis
     abbrev IsLast : Result Done SetFault → Type 0
     IsLast result = SetsSo formats files number history parent last new keys result
 
-    none-before : (result : Result Done SetFault) → IsLast result → Tells (numbers_told (stored_reply result)) → NoneBetween number history old.told last.told
+    none-before : (result : Result Done SetFault) → IsLast result → Tells (numbers_told (stored_reply result))
+        → NoneBetween number history old.told last.told
     none-before result set told =
         let later = set-later formats store number history parent keys last new (stored_reply result) set in
         none-behind number history old.told new.told last.told (numbers_told (stored_reply result)) (numbers-behind last.told (stored_reply result) later.1) later.0 told
@@ -216,7 +233,8 @@ module _ (number : ℕ) (history : List Commit) (formats : Formats) (files : Lis
     items s same ways =
         all_map (IsAnothers number history) (λ (item : Tried). item.by) tried (subst MetOthers (sym same) ways.anothers)
 
-    by_set : (result : Result Done SetFault) → tried ≡ made → IsLast result → Tells (numbers_told (stored_reply result)) → Comes (conflicts_told (stored_reply result))
+    by_set : (result : Result Done SetFault) → tried ≡ made → IsLast result → Tells (numbers_told (stored_reply result))
+        → Comes (conflicts_told (stored_reply result))
     by_set result same set told =
         let ways = way last.told (none-before result set told) (omega arith) in
         let ends =
@@ -234,34 +252,50 @@ module _ (number : ℕ) (history : List Commit) (formats : Formats) (files : Lis
         let ways =
         cut-keeps Retry (points_of store) parent strategy (λ (s : Session). s.told ≤ new.told) (retry-back old.told new.told) (Way old.told) (retry-way old.told new.told none)
         last keys made new tried Unmade cut (omega arith) before in
-        record { fronts = ways.covers; anothers = all_map (IsAnothers number history) (λ (item : Tried). item.by) tried ways.anothers; others = tt }
+        record {
+          fronts = ways.covers;
+          anothers = all_map (IsAnothers number history) (λ (item : Tried). item.by) tried ways.anothers;
+          others = tt;
+        }
 
     by_idle : tried ≡ made → Stays last new → Tells [] → Comes []
     by_idle same idle told =
         let ways = way new.told (none-told told) (omega (arith, ap (λ (s : Session). s.told) idle)) in
-        record { fronts = subst (λ (s : Session). Covers number history store s.rec s.told) (sym idle) ways.covers; anothers = items last same ways; others = tt }
+        record {
+          fronts = subst (λ (s : Session). Covers number history store s.rec s.told) (sym idle) ways.covers;
+          anothers = items last same ways;
+          others = tt;
+        }
 
-    both : (more : List ℕ) → Comes more → Covers number history store new.rec new.told × AreAnothers number history (met_by tried ++ more)
-    both more comes = (comes.fronts, all_append (IsAnothers number history) (met_by tried) more comes.anothers comes.others)
+    both : (more : List ℕ) → Comes more
+        → Covers number history store new.rec new.told × AreAnothers number history (met_by tried ++ more)
+    both more comes =
+        (comes.fronts, all_append (IsAnothers number history) (met_by tried) more comes.anothers comes.others)
 
-    end-covers : (end : Result Done MergeEnd) → EndsSo formats files number history parent strategy tries last keys made new tried end → Tells (numbers_told (merge_reply tried end))
+    end-covers : (end : Result Done MergeEnd)
+        → EndsSo formats files number history parent strategy tries last keys made new tried end
+        → Tells (numbers_told (merge_reply tried end))
         → Leaves number history store (merge_reply tried end) new
     end-covers (Ok done) h told = let comes = by_set (Ok done) h.0 h.1 told in (comes.fronts, comes.anothers)
-    end-covers (Err (merge_end.TriesSpent mount by front)) h told = both (by ∷ []) (by_set (Err (set_fault.Commit (Conflict mount by front))) h.0 h.1 told)
-    end-covers (Err (merge_end.Set why)) h told = both (conflicts_told (stored_reply (Err why))) (by_set (Err why) h.0 h.1 told)
+    end-covers (Err (merge_end.TriesSpent mount by front)) h told =
+        both (by ∷ []) (by_set (Err (set_fault.Commit (Conflict mount by front))) h.0 h.1 told)
+    end-covers (Err (merge_end.Set why)) h told =
+        both (conflicts_told (stored_reply (Err why))) (by_set (Err why) h.0 h.1 told)
     end-covers (Err (merge_end.MergeConflicts names)) h told = both [] (by_cut _ h told)
     end-covers (Err merge_end.Memory) (inl idle) told = both [] (by_idle idle.0 idle.1 told)
     end-covers (Err merge_end.Memory) (inr cut) told = both [] (by_cut _ cut told)
 
     -- where all tries are spent, others made so many commits
-    spent : (mount : Name) (by front : ℕ) → tried ≡ made → length tried + 1 ≡ tries → IsLast (Err (set_fault.Commit (Conflict mount by front))) → Tells [] → tries ≤ count_of_others number history
+    spent : (mount : Name) (by front : ℕ) → tried ≡ made → length tried + 1 ≡ tries
+        → IsLast (Err (set_fault.Commit (Conflict mount by front))) → Tells [] → tries ≤ count_of_others number history
     spent mount by front same count set told = judged set
       where
         result : Result Done SetFault
         result = Err (set_fault.Commit (Conflict mount by front))
 
         -- another reply tells of no conflict
-        no : (other : Reply) → conflicts_told other ≡ [] → stored_reply result ≡ other → tries ≤ count_of_others number history
+        no : (other : Reply) → conflicts_told other ≡ [] → stored_reply result ≡ other
+            → tries ≤ count_of_others number history
         no other none same = let some : by ∷ [] ≡ [] = ap conflicts_told same ∙ none in absurd cc
 
         judged : IsLast result → tries ≤ count_of_others number history
@@ -276,7 +310,9 @@ module _ (number : ℕ) (history : List Commit) (formats : Formats) (files : Lis
         judged (inr (inr (inr (inl h)))) = no (reply.SetRefused (set_fault.Prepare early_fault.Memory)) refl h.reply_is
         judged (inr (inr (inr (inr h)))) = no reply.Memory refl h.reply_is
 
-  pub merges-cover : (strategy : Strategy) (tries : ℕ) (old new : Session) (answer : Reply) → Merges formats files number history parent strategy tries old answer new → Covers number history store old.rec old.told
+  pub merges-cover : (strategy : Strategy) (tries : ℕ) (old new : Session) (answer : Reply)
+      → Merges formats files number history parent strategy tries old answer new
+      → Covers number history store old.rec old.told
       → AreTold number history old.told (numbers_told answer) new.told → Leaves number history store answer new
   merges-cover strategy tries old new answer h covers told =
       let merged = h.merged in
@@ -284,14 +320,19 @@ module _ (number : ℕ) (history : List Commit) (formats : Formats) (files : Lis
       (end-covers strategy tries old merged.last h.after merged.keys merged.made h.tried merged.retries covers h.end merged.ends) told
 
   -- where a reply tells that all tries are spent
-  pub merges-spent : (strategy : Strategy) (tries : ℕ) (old new : Session) (tried : List Tried) (mount : Name) (by front : ℕ)
-      → Merges formats files number history parent strategy tries old (merge_reply tried (Err (merge_end.TriesSpent mount by front))) new → Covers number history store old.rec old.told
+  pub merges-spent : (strategy : Strategy) (tries : ℕ) (old new : Session) (tried : List Tried) (mount : Name)
+      (by front : ℕ)
+      → Merges formats files number history parent strategy tries old (merge_reply tried (Err (merge_end.TriesSpent mount by front))) new
+      → Covers number history store old.rec old.told
       → AreTold number history old.told [] new.told → tries ≤ count_of_others number history
-  merges-spent strategy tries old new tried mount by front h covers told = by_end h.end h.merged.ends (subst (AreTold number history old.told []) (ap (λ (s : Session). s.told) h.new_is) told) h.reply_is
+  merges-spent strategy tries old new tried mount by front h covers told =
+      by_end h.end h.merged.ends (subst (AreTold number history old.told []) (ap (λ (s : Session). s.told) h.new_is) told) h.reply_is
     where
       by_end : (end : Result Done MergeEnd)
           → EndsSo formats files number history parent strategy tries h.merged.last h.merged.keys h.merged.made h.after h.tried end
-          → AreTold number history old.told [] h.after.told → merge_reply tried (Err (merge_end.TriesSpent mount by front)) ≡ merge_reply h.tried end → tries ≤ count_of_others number history
+          → AreTold number history old.told [] h.after.told
+          → merge_reply tried (Err (merge_end.TriesSpent mount by front)) ≡ merge_reply h.tried end
+          → tries ≤ count_of_others number history
       by_end (Err (merge_end.TriesSpent mount2 by2 front2)) ends told same =
           spent strategy tries old h.merged.last h.after h.merged.keys h.merged.made h.tried h.merged.retries covers mount2 by2 front2 ends.0 ends.2 ends.1 told
       by_end (Ok done) ends told same = absurd (no_other (ap is_spent same))

@@ -14,23 +14,37 @@ place-append [] ys k x is = absurd cc
 place-append (y ∷ xs) ys zero x is = is
 place-append (y ∷ xs) ys (suc k) x is = place-append xs ys k x is
 
-append-place : {A : Type 0} (xs ys : List A) (k : ℕ) (x : A) → slice_get (xs ++ ys) k ≡ Some x → k < length xs → slice_get xs k ≡ Some x
+append-place : {A : Type 0} (xs ys : List A) (k : ℕ) (x : A) → slice_get (xs ++ ys) k ≡ Some x → k < length xs
+    → slice_get xs k ≡ Some x
 append-place [] ys k x is lt = absurd (omega arith)
 append-place (y ∷ xs) ys zero x is lt = is
 append-place (y ∷ xs) ys (suc k) x is lt = append-place xs ys k x is (omega arith)
 
-pub place-longer : {A : Type 0} (xs ys : List A) (k : ℕ) (x : A) → IsPrefix xs ys → slice_get xs k ≡ Some x → slice_get ys k ≡ Some x
+pub place-longer : {A : Type 0} (xs ys : List A) (k : ℕ) (x : A) → IsPrefix xs ys → slice_get xs k ≡ Some x
+    → slice_get ys k ≡ Some x
 place-longer xs ys k x p is = subst (λ (l : List _). slice_get l k ≡ Some x) p.1 (place-append xs p.0 k x is)
 
-pub place-shorter : {A : Type 0} (xs ys : List A) (k : ℕ) (x : A) → IsPrefix xs ys → slice_get ys k ≡ Some x → k < length xs → slice_get xs k ≡ Some x
-place-shorter xs ys k x p is lt = append-place xs p.0 k x (subst (λ (l : List _). slice_get l k ≡ Some x) (sym p.1) is) lt
+pub place-shorter : {A : Type 0} (xs ys : List A) (k : ℕ) (x : A) → IsPrefix xs ys → slice_get ys k ≡ Some x
+    → k < length xs → slice_get xs k ≡ Some x
+place-shorter xs ys k x p is lt =
+    append-place xs p.0 k x (subst (λ (l : List _). slice_get l k ≡ Some x) (sym p.1) is) lt
 
-pub anothers-longer : (number : ℕ) (past history : List Commit) (by : ℕ) → IsPrefix past history → IsAnothers number past by → IsAnothers number history by
-anothers-longer number past history by p is = record { place = is.place; by_is = is.by_is; commit = is.commit; there = place-longer past history is.place is.commit p is.there; another = is.another }
+pub anothers-longer : (number : ℕ) (past history : List Commit) (by : ℕ) → IsPrefix past history
+    → IsAnothers number past by → IsAnothers number history by
+anothers-longer number past history by p is =
+    record {
+      place = is.place;
+      by_is = is.by_is;
+      commit = is.commit;
+      there = place-longer past history is.place is.commit p is.there;
+      another = is.another;
+    }
 
 -- ---- the own ones
 
-pub own-among : (number next : ℕ) (history : List Commit) (place at : ℕ) (commit : Commit) → slice_get history place ≡ Some commit → commit.handle ≡ number → at ≡ next + place → is_among (numbers_from number next history) at ≡ true
+pub own-among : (number next : ℕ) (history : List Commit) (place at : ℕ) (commit : Commit)
+    → slice_get history place ≡ Some commit → commit.handle ≡ number → at ≡ next + place
+    → is_among (numbers_from number next history) at ≡ true
 own-among number next [] place at commit there own is = absurd cc
 own-among number next (made ∷ history) zero at commit there own is =
     let rest : List ℕ = numbers_from number (next + 1) history in
@@ -40,14 +54,17 @@ own-among number next (made ∷ history) zero at commit there own is =
 own-among number next (made ∷ history) (suc place) at commit there own is =
     by (nat_eq made.handle number) (own-among number (next + 1) history place at commit there own (omega (arith, is)))
   where
-    by : (b : Bool) → is_among (numbers_from number (next + 1) history) at ≡ true → is_among (cond b (next ∷ numbers_from number (next + 1) history) (numbers_from number (next + 1) history)) at ≡ true
+    by : (b : Bool) → is_among (numbers_from number (next + 1) history) at ≡ true
+        → is_among (cond b (next ∷ numbers_from number (next + 1) history) (numbers_from number (next + 1) history)) at
+        ≡ true
     by true among = among-rest next at (numbers_from number (next + 1) history) among
     by false among = among
 
 -- ---- those of others
 
 -- of the first so many commits there are no more
-pub count-first : (number k : ℕ) (history : List Commit) → count_of_others number (take k history) ≤ count_of_others number history
+pub count-first : (number k : ℕ) (history : List Commit)
+    → count_of_others number (take k history) ≤ count_of_others number history
 count-first number zero history = omega arith
 count-first number (suc k) [] = omega arith
 count-first number (suc k) (commit ∷ history) = by (nat_eq commit.handle number) (count-first number k history)
@@ -58,7 +75,8 @@ count-first number (suc k) (commit ∷ history) = by (nat_eq commit.handle numbe
     by false le = omega (arith, le)
 
 -- one that stands behind some and before others is one more
-pub count-more : (number : ℕ) (history : List Commit) (from place to : ℕ) (commit : Commit) → slice_get history place ≡ Some commit → (commit.handle ≡ number → ⊥) → from ≤ place → place < to
+pub count-more : (number : ℕ) (history : List Commit) (from place to : ℕ) (commit : Commit)
+    → slice_get history place ≡ Some commit → (commit.handle ≡ number → ⊥) → from ≤ place → place < to
     → count_of_others number (take from history) + 1 ≤ count_of_others number (take to history)
 count-more number [] from place to commit there off le lt = absurd cc
 count-more number (made ∷ history) from place zero commit there off le lt = absurd (omega arith)

@@ -58,14 +58,19 @@ pub record LeavesWatch (old : Session) (answer : Reply) (new : Session) : Type 0
   pub same : new.watching ≡ old.watching
 
 -- by what the reply and the session are
-left : (said : Reply) (old made : Session) (answer : Reply) (new : Session) → news_told said ≡ [] → made.watching ≡ old.watching → answer ≡ said → new ≡ made → LeavesWatch old answer new
-left said old made answer new none same reply_is new_is = record { none = ap news_told reply_is ∙ none; same = ap (λ (s : Session). s.watching) new_is ∙ same }
+left : (said : Reply) (old made : Session) (answer : Reply) (new : Session) → news_told said ≡ []
+    → made.watching ≡ old.watching → answer ≡ said → new ≡ made → LeavesWatch old answer new
+left said old made answer new none same reply_is new_is =
+    record { none = ap news_told reply_is ∙ none; same = ap (λ (s : Session). s.watching) new_is ∙ same }
 
-lacked : (memory : Reply) (old : Session) (answer : Reply) (new : Session) → news_told memory ≡ [] → Lacks memory old answer new → LeavesWatch old answer new
+lacked : (memory : Reply) (old : Session) (answer : Reply) (new : Session) → news_told memory ≡ []
+    → Lacks memory old answer new → LeavesWatch old answer new
 lacked memory old answer new none h = left memory old old answer new none refl h.reply_is h.new_is
 
-edited-left : (edited : KeyMap) (old : Session) (answer : Reply) (new : Session) → Edits edited old answer new ⊎ Lacks reply.Memory old answer new → LeavesWatch old answer new
-edited-left edited old answer new (inl h) = left reply.Quiet old (record old { working = edited }) answer new refl refl h.reply_is h.new_is
+edited-left : (edited : KeyMap) (old : Session) (answer : Reply) (new : Session)
+    → Edits edited old answer new ⊎ Lacks reply.Memory old answer new → LeavesWatch old answer new
+edited-left edited old answer new (inl h) =
+    left reply.Quiet old (record old { working = edited }) answer new refl refl h.reply_is h.new_is
 edited-left edited old answer new (inr h) = lacked reply.Memory old answer new refl h
 
 looked : (one : Option Found) → news_told (look_reply one) ≡ []
@@ -80,14 +85,19 @@ merged : (tried : List Tried) (end : Result Done MergeEnd) → news_told (merge_
 merged tried (Ok done) = refl
 merged tried (Err end) = refl
 
-pub set-left : (formats : Formats) (store : Store) (number : ℕ) (history : List Commit) (parent : Name) (keys : KeyMap) (old : Session) (answer : Reply) (new : Session)
+pub set-left : (formats : Formats) (store : Store) (number : ℕ) (history : List Commit) (parent : Name) (keys : KeyMap)
+    (old : Session) (answer : Reply) (new : Session)
     → MeansSet formats store number history parent keys old answer new → LeavesWatch old answer new
 set-left formats store number history parent keys old answer new (inl h) =
     record { none = ap news_told h.reply_is ∙ judged h.result; same = ap (λ (s : Session). s.watching) h.new_is }
-set-left formats store number history parent keys old answer new (inr (inl h)) = left (reply.SetRefused (set_fault.Prepare h.why)) old old answer new refl refl h.reply_is h.new_is
-set-left formats store number history parent keys old answer new (inr (inr (inl h))) = lacked (reply.SetRefused (set_fault.Commit Memory)) old answer new refl h
-set-left formats store number history parent keys old answer new (inr (inr (inr (inl h)))) = lacked (reply.SetRefused (set_fault.Prepare early_fault.Memory)) old answer new refl h
-set-left formats store number history parent keys old answer new (inr (inr (inr (inr h)))) = lacked reply.Memory old answer new refl h
+set-left formats store number history parent keys old answer new (inr (inl h)) =
+    left (reply.SetRefused (set_fault.Prepare h.why)) old old answer new refl refl h.reply_is h.new_is
+set-left formats store number history parent keys old answer new (inr (inr (inl h))) =
+    lacked (reply.SetRefused (set_fault.Commit Memory)) old answer new refl h
+set-left formats store number history parent keys old answer new (inr (inr (inr (inl h)))) =
+    lacked (reply.SetRefused (set_fault.Prepare early_fault.Memory)) old answer new refl h
+set-left formats store number history parent keys old answer new (inr (inr (inr (inr h)))) =
+    lacked reply.Memory old answer new refl h
 
 -- ---- a merged set
 
@@ -95,30 +105,37 @@ module _ (formats : Formats) (files : List MountedFile) (number : ℕ) (history 
   abbrev StillWatches : List Tried → Session → Type 0
   StillWatches before s = s.watching ≡ first
 
-  retry-left : (before : List Tried) (old new : Session) (ours : KeyMap) (item : Tried) (base theirs : KeyMap) → Retries formats files number history parent old ours item new base theirs
+  retry-left : (before : List Tried) (old new : Session) (ours : KeyMap) (item : Tried) (base theirs : KeyMap)
+      → Retries formats files number history parent old ours item new base theirs
       → Unit {0} → StillWatches before old → StillWatches (before ++ item ∷ []) new
   retry-left before old new ours item base theirs h within held =
       let set = set-left formats (store_at files) number history parent ours old (set_reply (Err (Conflict item.mount item.by item.front))) h.mid (inl h.conflict) in
       ap (λ (s : Session). s.watching) h.new_is ∙ set.same ∙ held
 
   module _ (strategy : Strategy) (tries : ℕ) (last new : Session) (keys : KeyMap) (made tried : List Tried) (held : last.watching ≡ first) where
-    by_set : (result : Result Done SetFault) → SetsSo formats files number history parent last new keys result → new.watching ≡ first
-    by_set result set = (set-left formats (store_at files) number history parent keys last (stored_reply result) new set).same ∙ held
+    by_set : (result : Result Done SetFault) → SetsSo formats files number history parent last new keys result
+        → new.watching ≡ first
+    by_set result set =
+        (set-left formats (store_at files) number history parent keys last (stored_reply result) new set).same ∙ held
 
-    by_cut : (Unmade : KeyMap → KeyMap → Type 0) → IsCutBy (Retries formats files number history parent) last keys made new tried Unmade → new.watching ≡ first
+    by_cut : (Unmade : KeyMap → KeyMap → Type 0)
+        → IsCutBy (Retries formats files number history parent) last keys made new tried Unmade → new.watching ≡ first
     by_cut Unmade cut =
         cut-keeps (Retries formats files number history parent) (points_of (store_at files)) parent strategy (λ s. Unit {0}) (λ old new ours item base theirs retry within. tt) StillWatches retry-left
         last keys made new tried Unmade cut tt held
 
-    end-left : (end : Result Done MergeEnd) → EndsSo formats files number history parent strategy tries last keys made new tried end → new.watching ≡ first
+    end-left : (end : Result Done MergeEnd)
+        → EndsSo formats files number history parent strategy tries last keys made new tried end → new.watching ≡ first
     end-left (Ok done) h = by_set (Ok done) h.1
-    end-left (Err (merge_end.TriesSpent mount by front)) h = by_set (Err (set_fault.Commit (Conflict mount by front))) h.1
+    end-left (Err (merge_end.TriesSpent mount by front)) h =
+        by_set (Err (set_fault.Commit (Conflict mount by front))) h.1
     end-left (Err (merge_end.Set why)) h = by_set (Err why) h.1
     end-left (Err (merge_end.MergeConflicts names)) h = by_cut _ h
     end-left (Err merge_end.Memory) (inl idle) = ap (λ (s : Session). s.watching) idle.1 ∙ held
     end-left (Err merge_end.Memory) (inr cut) = by_cut _ cut
 
-merge-left : (formats : Formats) (files : List MountedFile) (number : ℕ) (history : List Commit) (parent : Name) (strategy : Strategy) (tries : ℕ) (old : Session) (answer : Reply) (new : Session)
+merge-left : (formats : Formats) (files : List MountedFile) (number : ℕ) (history : List Commit) (parent : Name)
+    (strategy : Strategy) (tries : ℕ) (old : Session) (answer : Reply) (new : Session)
     → Merges formats files number history parent strategy tries old answer new → LeavesWatch old answer new
 merge-left formats files number history parent strategy tries old answer new h =
     let way = h.merged in
@@ -126,7 +143,10 @@ merge-left formats files number history parent strategy tries old answer new h =
     tries-keep (Retries formats files number history parent) (points_of (store_at files)) parent strategy (λ s. Unit {0}) (λ old new ours item base theirs retry within. tt)
     (StillWatches formats files number history parent old.watching) (retry-left formats files number history parent old.watching) [] old old.working way.made way.last way.keys way.retries tt refl in
     let ended = end-left formats files number history parent old.watching strategy tries way.last h.after way.keys way.made h.tried held h.end way.ends in
-    record { none = ap news_told h.reply_is ∙ merged h.tried h.end; same = ap (λ (s : Session). s.watching) h.new_is ∙ ended }
+    record {
+      none = ap news_told h.reply_is ∙ merged h.tried h.end;
+      same = ap (λ (s : Session). s.watching) h.new_is ∙ ended;
+    }
 
 -- ---- a step
 
@@ -149,12 +169,18 @@ no-watch e = absurd cc
 
 module _ (formats : Formats) (files : List MountedFile) (procs : KeyMap) (number : ℕ) (history : List Commit) (watched : Watching) where
   -- where something is watched and the reply begins no watch, the step leaves it or was a poll
-  step-watched : (old new : Session) (step : Step) (answer : Reply) → Means formats files procs number history old step answer new → old.watching ≡ Some watched → watched.from ≤ old.told → begins_watch answer ≡ false
+  step-watched : (old new : Session) (step : Step) (answer : Reply)
+      → Means formats files procs number history old step answer new → old.watching ≡ Some watched
+      → watched.from ≤ old.told → begins_watch answer ≡ false
       → LeavesWatch old answer new ⊎ Polled history watched answer new
-  step-watched old new (Get parent) answer (inl h) is le none = inl (record { none = ap news_told h.reply_is; same = ap (λ (s : Session). s.watching) h.new_is })
-  step-watched old new (Get parent) answer (inr (inl h)) is le none = inl (left (reply.GetRefused h.why) old old answer new refl refl h.reply_is h.new_is)
-  step-watched old new (Get parent) answer (inr (inr (inl h))) is le none = inl (lacked (reply.GetRefused get_fault.Memory) old answer new refl h)
-  step-watched old new (Get parent) answer (inr (inr (inr h))) is le none = inl (lacked reply.Memory old answer new refl h)
+  step-watched old new (Get parent) answer (inl h) is le none =
+      inl (record { none = ap news_told h.reply_is; same = ap (λ (s : Session). s.watching) h.new_is })
+  step-watched old new (Get parent) answer (inr (inl h)) is le none =
+      inl (left (reply.GetRefused h.why) old old answer new refl refl h.reply_is h.new_is)
+  step-watched old new (Get parent) answer (inr (inr (inl h))) is le none =
+      inl (lacked (reply.GetRefused get_fault.Memory) old answer new refl h)
+  step-watched old new (Get parent) answer (inr (inr (inr h))) is le none =
+      inl (lacked reply.Memory old answer new refl h)
   step-watched old new (Put name value) answer h is le none = inl (edited-left _ old answer new h)
   step-watched old new (MetaStep name meta value) answer h is le none = inl (edited-left _ old answer new h)
   step-watched old new (Del name) answer h is le none = inl (edited-left _ old answer new h)
@@ -163,10 +189,14 @@ module _ (formats : Formats) (files : List MountedFile) (procs : KeyMap) (number
       let one = found (specified old.working) name in
       inl (left (look_reply one) old old answer new (looked one) refl h.reply_is h.new_is)
   step-watched old new (Look name) answer (inr h) is le none = inl (lacked reply.Memory old answer new refl h)
-  step-watched old new (Set parent) answer h is le none = inl (set-left formats (store_at files) number history parent old.working old answer new h)
-  step-watched old new (Merge parent strategy tries) answer (inl h) is le none = inl (merge-left formats files number history parent strategy tries old answer new h)
-  step-watched old new (Merge parent strategy tries) answer (inr h) is le none = inl (lacked reply.Memory old answer new refl h)
-  step-watched old new (Watch parent room) answer (inl h) is le none = no-watch (sym (ap begins_watch h.reply_is) ∙ none)
+  step-watched old new (Set parent) answer h is le none =
+      inl (set-left formats (store_at files) number history parent old.working old answer new h)
+  step-watched old new (Merge parent strategy tries) answer (inl h) is le none =
+      inl (merge-left formats files number history parent strategy tries old answer new h)
+  step-watched old new (Merge parent strategy tries) answer (inr h) is le none =
+      inl (lacked reply.Memory old answer new refl h)
+  step-watched old new (Watch parent room) answer (inl h) is le none =
+      no-watch (sym (ap begins_watch h.reply_is) ∙ none)
   step-watched old new (Watch parent room) answer (inr h) is le none = inl (lacked reply.Memory old answer new refl h)
   step-watched old new Poll answer (inl h) is le none = let e : None ≡ Some watched = sym h.none ∙ is in absurd cc
   step-watched old new Poll answer (inr (inl h)) is le none =
@@ -180,8 +210,10 @@ module _ (formats : Formats) (files : List MountedFile) (procs : KeyMap) (number
         watching_is = ap (λ (s : Session). s.watching) h.new_is ∙ ap (λ (w : Watching). Some (record w { from = length h.past })) same;
       })
   step-watched old new Poll answer (inr (inr h)) is le none = inl (lacked reply.Memory old answer new refl h)
-  step-watched old new (Undo undone) answer (inl h) is le none = inl (record { none = ap news_told h.reply_is ∙ undone-news h.result; same = ap (λ (s : Session). s.watching) h.new_is })
-  step-watched old new (Undo undone) answer (inr (inl h)) is le none = inl (lacked (reply.UndoRefused undo_fault.Memory) old answer new refl h)
+  step-watched old new (Undo undone) answer (inl h) is le none =
+      inl (record { none = ap news_told h.reply_is ∙ undone-news h.result; same = ap (λ (s : Session). s.watching) h.new_is })
+  step-watched old new (Undo undone) answer (inr (inl h)) is le none =
+      inl (lacked (reply.UndoRefused undo_fault.Memory) old answer new refl h)
   step-watched old new (Undo undone) answer (inr (inr h)) is le none = inl (lacked reply.Memory old answer new refl h)
 
 -- ---- step by step
@@ -192,8 +224,10 @@ front_in (reply.Watching front) = front
 front_in other = 0
 
 -- news behind a poll's are told behind it
-told-more : (history past : List Commit) (watched : Watching) (to : ℕ) (later : List News) → IsPrefix past history → watched.from ≤ length past → length past ≤ to → to ≤ length history
-    → AreTold watched.room (news history (length past) to watched.parent) later → AreTold watched.room (news history watched.from to watched.parent) (news_then watched past ∷ later)
+told-more : (history past : List Commit) (watched : Watching) (to : ℕ) (later : List News) → IsPrefix past history
+    → watched.from ≤ length past → length past ≤ to → to ≤ length history
+    → AreTold watched.room (news history (length past) to watched.parent) later
+    → AreTold watched.room (news history watched.from to watched.parent) (news_then watched past ∷ later)
 told-more history past watched to later p le le_to within each = (take over all, rest, one, each)
   where
     all : List Changed
@@ -206,7 +240,9 @@ told-more history past watched to later p le le_to within each = (take over all,
     over = length all - watched.room
 
     first : all ≡ news history watched.from (length past) watched.parent
-    first = sym (news-longer watched.parent past p.0 watched.from (length past) (omega arith)) ∙ ap (λ (l : List Commit). news l watched.from (length past) watched.parent) p.1
+    first =
+        sym (news-longer watched.parent past p.0 watched.from (length past) (omega arith))
+        ∙ ap (λ (l : List Commit). news l watched.from (length past) watched.parent) p.1
 
     one : IsTold watched.room (news history watched.from to watched.parent) (take over all) rest (news_then watched past)
     one = record {
@@ -218,8 +254,11 @@ told-more history past watched to later p le le_to within each = (take over all,
     }
 
 module _ (formats : Formats) (files : List MountedFile) (procs : KeyMap) (number : ℕ) (history : List Commit) where
-  pub follows : (watched : Watching) (old new : Session) (steps : List Step) (answers : List Reply) → Tells formats files procs number history old steps answers new → old.watching ≡ Some watched → watched.from ≤ old.told
-      → watched.from ≤ length history → AllByRecursion (λ answer. begins_watch answer ≡ false) answers → Follows history watched answers new
+  pub follows : (watched : Watching) (old new : Session) (steps : List Step) (answers : List Reply)
+      → Tells formats files procs number history old steps answers new → old.watching ≡ Some watched
+      → watched.from ≤ old.told
+      → watched.from ≤ length history → AllByRecursion (λ answer. begins_watch answer ≡ false) answers
+      → Follows history watched answers new
   follows watched old new [] [] h is le within none = record {
     to = watched.from;
     no_less = omega arith;
@@ -255,16 +294,20 @@ module _ (formats : Formats) (files : List MountedFile) (procs : KeyMap) (number
             no_less = omega (arith, polled.from, next.no_less);
             within = next.within;
             watching_is = next.watching_is;
-            each = subst (λ (l : List News). AreTold watched.room (news history watched.from next.to watched.parent) (l ++ flat_map news_told answers)) (sym (ap news_told polled.reply_is))
+            each =
+                subst (λ (l : List News). AreTold watched.room (news history watched.from next.to watched.parent) (l ++ flat_map news_told answers)) (sym (ap news_told polled.reply_is))
                 (told-more history polled.past watched next.to (flat_map news_told answers) polled.begins polled.from next.no_less next.within next.each);
           }
 
   -- from a watch on
-  pub watched-follows : (parent : Name) (room front : ℕ) (old new : Session) (steps : List Step) (answers : List Reply) → Tells formats files procs number history old (Watch parent room ∷ steps) (reply.Watching front ∷ answers) new
-      → AllByRecursion (λ answer. begins_watch answer ≡ false) answers → Follows history (record { parent = parent; room = room; from = front }) answers new
+  pub watched-follows : (parent : Name) (room front : ℕ) (old new : Session) (steps : List Step) (answers : List Reply)
+      → Tells formats files procs number history old (Watch parent room ∷ steps) (reply.Watching front ∷ answers) new
+      → AllByRecursion (λ answer. begins_watch answer ≡ false) answers
+      → Follows history (record { parent = parent; room = room; from = front }) answers new
   watched-follows parent room front old new steps answers h none = by h.1
     where
-      by : Means formats files procs number history old (Watch parent room) (reply.Watching front) h.0 → Follows history (record { parent = parent; room = room; from = front }) answers new
+      by : Means formats files procs number history old (Watch parent room) (reply.Watching front) h.0
+          → Follows history (record { parent = parent; room = room; from = front }) answers new
       by (inl watches) =
           let same : front ≡ length watches.past = ap front_in watches.reply_is in
           follows (record { parent = parent; room = room; from = front }) h.0 new steps answers h.2
@@ -273,17 +316,25 @@ module _ (formats : Formats) (files : List MountedFile) (procs : KeyMap) (number
       by (inr lacks) = let e : reply.Watching front ≡ reply.Memory = lacks.reply_is in absurd cc
 
   -- what comes behind some steps and their replies
-  tells-behind : (old new : Session) (steps later : List Step) (answers others : List Reply) → length steps ≡ length answers → Tells formats files procs number history old (steps ++ later) (answers ++ others) new
+  tells-behind : (old new : Session) (steps later : List Step) (answers others : List Reply)
+      → length steps ≡ length answers
+      → Tells formats files procs number history old (steps ++ later) (answers ++ others) new
       → (mid : Session) × Tells formats files procs number history mid later others new
   tells-behind old new [] later [] others many h = (old, h)
   tells-behind old new [] later (answer ∷ answers) others many h = absurd cc
   tells-behind old new (step ∷ steps) later [] others many h = absurd cc
-  tells-behind old new (step ∷ steps) later (answer ∷ answers) others many h = tells-behind h.0 new steps later answers others (omega (arith, many)) h.2
+  tells-behind old new (step ∷ steps) later (answer ∷ answers) others many h =
+      tells-behind h.0 new steps later answers others (omega (arith, many)) h.2
 
 -- so it is in fair transcripts, from a session's watch on
-pub fair-follows : (formats : Formats) (files : List MountedFile) (sessions : ℕ) (procs : ℕ → KeyMap) (history : List Commit) (steps : List (List (List Step))) (replies : List (List (List Reply)))
-    → IsFair formats files sessions procs history steps replies → (i : ℕ) → i < sessions → (before later : List Step) (answers others : List Reply) (parent : Name) (room front : ℕ) → length before ≡ length answers
-    → of_session i steps ≡ before ++ Watch parent room ∷ later → of_session i replies ≡ answers ++ reply.Watching front ∷ others → AllByRecursion (λ answer. begins_watch answer ≡ false) others
+pub fair-follows : (formats : Formats) (files : List MountedFile) (sessions : ℕ) (procs : ℕ → KeyMap)
+    (history : List Commit) (steps : List (List (List Step))) (replies : List (List (List Reply)))
+    → IsFair formats files sessions procs history steps replies → (i : ℕ) → i < sessions
+    → (before later : List Step) (answers others : List Reply) (parent : Name) (room front : ℕ)
+    → length before ≡ length answers
+    → of_session i steps ≡ before ++ Watch parent room ∷ later
+    → of_session i replies ≡ answers ++ reply.Watching front ∷ others
+    → AllByRecursion (λ answer. begins_watch answer ≡ false) others
     → (last : Session) × Follows history (record { parent = parent; room = room; from = front }) others last
 fair-follows formats files sessions procs history steps replies fair i lt before later answers others parent room front many steps_are replies_are none =
     let told = fair-flat formats files sessions procs history steps replies fair i lt in

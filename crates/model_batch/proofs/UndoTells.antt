@@ -24,13 +24,15 @@ use Rattle.seat_lock.proofs.Prefixes.{prefix-trans}
 use Rattle.store_core.specs.declared.committing.Done.{Done}
 use Rattle.store_core.specs.declared.committing.Done.TheVariants.{Committed, Same}
 
-stands-far : (history longer past : List Commit) (set : Prepared) (result : Result Done UndoFault) → IsPrefix history longer → UndoStands history past set result → UndoStands longer past set result
+stands-far : (history longer past : List Commit) (set : Prepared) (result : Result Done UndoFault)
+    → IsPrefix history longer → UndoStands history past set result → UndoStands longer past set result
 stands-far history longer past set (Ok done) p stands = stands-more history longer past set (Ok done) p stands
 stands-far history longer past set (Err why) p stands = prefix-trans past history longer stands p
 
 module _ (formats : Formats) (files : List MountedFile) (procs : KeyMap) (number : ℕ) (undone : ℕ) (old new : Session) (answer : Reply) where
   pub undoes-more : (history longer : List Commit) → IsPrefix history longer
-      → Undoes formats files procs number history undone old answer new → Undoes formats files procs number longer undone old answer new
+      → Undoes formats files procs number history undone old answer new
+      → Undoes formats files procs number longer undone old answer new
   undoes-more history longer p h = record {
     past = h.past;
     no_less = h.no_less;
@@ -55,8 +57,10 @@ module _ (formats : Formats) (files : List MountedFile) (procs : KeyMap) (number
     told-is = ap (λ (s : Session). s.told) h.new_is
 
     -- what it tells, and the session knows then, is no less than the commits by which it was judged
-    result-later : (result : Result Done UndoFault) → IsUndoneBy formats undo old.working h.rec h.keys result → (old.told ≤ undo_told front result) × IsAtLeast old.told (undo_reply result)
-    result-later (Ok (Committed n aside)) done = (omega (arith, h.no_less, done.judged.0), (omega (arith, h.no_less, done.judged.0), tt))
+    result-later : (result : Result Done UndoFault) → IsUndoneBy formats undo old.working h.rec h.keys result
+        → (old.told ≤ undo_told front result) × IsAtLeast old.told (undo_reply result)
+    result-later (Ok (Committed n aside)) done =
+        (omega (arith, h.no_less, done.judged.0), (omega (arith, h.no_less, done.judged.0), tt))
     result-later (Ok (Same f aside)) done = absurd done
     result-later (Err (undo_fault.NoCommit n f)) done = (h.no_less, (omega (arith, h.no_less, done.0.2), tt))
     result-later (Err (undo_fault.Overtaken name by f)) done = (h.no_less, (omega (arith, h.no_less, done.0.1), tt))
@@ -74,7 +78,8 @@ module _ (formats : Formats) (files : List MountedFile) (procs : KeyMap) (number
         (omega (arith, later.0, told-is), subst (IsAtLeast old.told) (sym h.reply_is) later.1)
 
     -- the number of its commit is told then
-    result-numbers : (result : Result Done UndoFault) → AllByRecursion (λ n. n ≤ undo_told front result) (numbers_told (undo_reply result))
+    result-numbers : (result : Result Done UndoFault)
+        → AllByRecursion (λ n. n ≤ undo_told front result) (numbers_told (undo_reply result))
     result-numbers (Ok (Committed n aside)) = (omega arith, tt)
     result-numbers (Ok (Same f aside)) = tt
     result-numbers (Err why) = tt

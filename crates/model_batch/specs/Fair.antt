@@ -50,7 +50,10 @@ TellsPhases formats files procs number history sessions i old before (made ∷ s
 -- number are just those that its replies tell, in order, each once; and no others are in the history. In each phase
 -- every front is at least the count of the commits of all earlier phases
 pub record IsFair (formats : Formats) (files : List MountedFile) (sessions : ℕ) (procs : ℕ → KeyMap) (history : List Commit) (steps : List (List (List Step))) (replies : List (List (List Reply))) : Type 0 where
-  pub tells : (i : ℕ) → i < sessions → (last : Session) × TellsPhases formats files (procs (i + 1)) (i + 1) history sessions i first_session [] steps replies last
+  pub tells : (i : ℕ) → i < sessions
+      → (last : Session)
+      × TellsPhases formats files (procs (i + 1)) (i + 1) history sessions i first_session [] steps replies last
   pub own : (i : ℕ) → i < sessions → numbers_by (i + 1) history ≡ commits_told i replies
   pub only : (number : ℕ) → (number ≡ 0) ⊎ (sessions < number) → numbers_by number history ≡ []
-  pub phases : (p : ℕ) (row : List (List Reply)) → slice_get replies p ≡ Some row → All (All (IsAtLeast (count_told sessions (take p replies)))) row
+  pub phases : (p : ℕ) (row : List (List Reply)) → slice_get replies p ≡ Some row
+      → All (All (IsAtLeast (count_told sessions (take p replies)))) row

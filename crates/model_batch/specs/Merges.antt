@@ -36,11 +36,13 @@ pub record Retries (formats : Formats) (files : List MountedFile) (number : ℕ)
   pub good : first_bad (store_at files) parent ≡ None
   pub again : item.again ≡ length past
   pub theirs_is : theirs ≡ in_reach (points_of (store_at files)) parent (replay (store_at files).start past)
-  pub new_is : new ≡ record mid { rec = kept_then (store_at files) past (involved_in (points_of (store_at files)) parent) mid.rec; told = length past }
+  pub new_is : new
+      ≡ record mid { rec = kept_then (store_at files) past (involved_in (points_of (store_at files)) parent) mid.rec; told = length past }
 
 -- a set of some keys on the way, which a session tells to nobody yet
 abbrev pub SetsSo : Formats → List MountedFile → ℕ → List Commit → Name → Session → Session → KeyMap → Result Done SetFault → Type 0
-SetsSo formats files number history parent old new keys result = MeansSet formats (store_at files) number history parent keys old (stored_reply result) new
+SetsSo formats files number history parent old new keys result =
+    MeansSet formats (store_at files) number history parent keys old (stored_reply result) new
 
 -- nothing was done
 abbrev pub Stays : Session → Session → Type 0
@@ -48,7 +50,8 @@ Stays old new = new ≡ old
 
 -- how a session's tries end
 abbrev pub EndsSo : Formats → List MountedFile → ℕ → List Commit → Name → Strategy → ℕ → Session → KeyMap → List Tried → Session → List Tried → Result Done MergeEnd → Type 0
-EndsSo formats files number history parent = IsEndBy (Retries formats files number history parent) (SetsSo formats files number history parent) Stays (points_of (store_at files)) parent
+EndsSo formats files number history parent =
+    IsEndBy (Retries formats files number history parent) (SetsSo formats files number history parent) Stays (points_of (store_at files)) parent
 
 -- The working set is set in so many tries, and becomes what was set. Where it isn't set it stays, and all else of the
 -- session is as after the gets of the tries

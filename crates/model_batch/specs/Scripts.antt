@@ -37,7 +37,8 @@ session_at script number = unwrap_or (slice_get (sessions_of script) (number - 1
 -- the keys in `proc` that lines give a session; of one name the last is given
 abbrev pub keys_by : ℕ → List ProcLine → KeyMap → KeyMap
 keys_by session [] keys = keys
-keys_by session (line ∷ lines) keys = keys_by session lines (if nat_eq line.session session then map.insert keys line.key (plain_entry line.value) else keys)
+keys_by session (line ∷ lines) keys =
+    keys_by session lines (if nat_eq line.session session then map.insert keys line.key (plain_entry line.value) else keys)
 
 -- those of a handle
 abbrev pub procs_of : Script → ℕ → KeyMap
@@ -54,7 +55,8 @@ steps_in (steps ∷ sessions) session = if nat_eq steps.session session then ste
 abbrev pub replies_in : List Steps → List (List Reply) → ℕ → List Reply
 replies_in [] answers session = []
 replies_in (steps ∷ sessions) [] session = []
-replies_in (steps ∷ sessions) (one ∷ answers) session = if nat_eq steps.session session then one else replies_in sessions answers session
+replies_in (steps ∷ sessions) (one ∷ answers) session =
+    if nat_eq steps.session session then one else replies_in sessions answers session
 
 -- a row of steps for each phase, with a list for each session of the script
 abbrev pub step_rows : Script → List (List (List Step))
@@ -64,7 +66,8 @@ step_rows script = over (λ (phase : Phase). over (steps_in phase.sessions) (ses
 abbrev pub rows_by : List ℕ → List Phase → List (List (List Reply)) → List (List (List Reply))
 rows_by sessions [] answers = []
 rows_by sessions (phase ∷ phases) [] = []
-rows_by sessions (phase ∷ phases) (one ∷ answers) = over (replies_in phase.sessions one) sessions ∷ rows_by sessions phases answers
+rows_by sessions (phase ∷ phases) (one ∷ answers) =
+    over (replies_in phase.sessions one) sessions ∷ rows_by sessions phases answers
 
 abbrev pub reply_rows : Script → Transcripts → List (List (List Reply))
 reply_rows script transcripts = rows_by (sessions_of script) script.phases transcripts.phases

@@ -37,7 +37,8 @@ kept_then store past mounts rec = keeping mounts (length past) (wants (points_of
 -- a record after an answer: on a commit it keeps what was wanted for each touched mount, with the commit's number where
 -- the mount counts by its backend
 abbrev pub record_then : Store → List Commit → Prepared → Result Done CommitFault → Record → Record
-record_then store past set (Ok (Committed number aside)) rec = storing store set.touched (length past + 1) (wants (points_of store) set.keys) rec
+record_then store past set (Ok (Committed number aside)) rec =
+    storing store set.touched (length past + 1) (wants (points_of store) set.keys) rec
 record_then store past set (Ok (Same front aside)) rec = rec
 record_then store past set (Err why) rec = rec
 
@@ -75,7 +76,8 @@ pub record IsJudgedThen (formats : Formats) (store : Store) (number : ℕ) (hist
   pub judged : IsJudged formats store (tells_refusal result) past (replay store.start past) (set_by store number old parent keys) result
   pub stands : StandsNext history past (set_by store number old parent keys) result
   pub reply_is : answer ≡ set_reply result
-  pub new_is : new ≡ record old { rec = record_then store past (set_by store number old parent keys) result old.rec; told = told_then result old.told }
+  pub new_is : new
+      ≡ record old { rec = record_then store past (set_by store number old parent keys) result old.rec; told = told_then result old.told }
 
 -- the set is refused by what needs no history
 pub record IsUnprepared (formats : Formats) (store : Store) (number : ℕ) (parent : Name) (keys : KeyMap) (old : Session) (answer : Reply) (new : Session) : Type 0 where

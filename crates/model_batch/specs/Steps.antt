@@ -31,7 +31,8 @@ use Rattle.store_core.specs.Gets.{fault_at}
 
 -- what a get of a parent gives after some commits, where the handle has these keys in `proc`
 abbrev pub got_then : List MountedFile → KeyMap → ℕ → List Commit → Name → KeyMap
-got_then files procs number past parent = got (store_of files (λ r. procs)) (replay (store_at files).start past) number parent
+got_then files procs number past parent =
+    got (store_of files (λ r. procs)) (replay (store_at files).start past) number parent
 
 -- no involved mount is bad, and the working set becomes the keys after the first so many commits, no fewer than the
 -- session was told of
@@ -71,14 +72,23 @@ abbrev pub Means : Formats → List MountedFile → KeyMap → ℕ → List Comm
 Means formats files procs number history old (Get parent) answer new =
     Gets files procs number history parent old answer new
     ⊎ (IsBad files parent old answer new ⊎ (Lacks (reply.GetRefused get_fault.Memory) old answer new ⊎ Lacks reply.Memory old answer new))
-Means formats files procs number history old (Put name value) answer new = Edits (put_value old.working name value) old answer new ⊎ Lacks reply.Memory old answer new
-Means formats files procs number history old (MetaStep name meta value) answer new = Edits (put_meta old.working name meta value) old answer new ⊎ Lacks reply.Memory old answer new
-Means formats files procs number history old (Del name) answer new = Edits (map.remove old.working name) old answer new ⊎ Lacks reply.Memory old answer new
-Means formats files procs number history old (Cut name) answer new = Edits (not_below name old.working) old answer new ⊎ Lacks reply.Memory old answer new
-Means formats files procs number history old (Look name) answer new = Looks name old answer new ⊎ Lacks reply.Memory old answer new
-Means formats files procs number history old (Set parent) answer new = MeansSet formats (store_at files) number history parent old.working old answer new
-Means formats files procs number history old (Merge parent strategy tries) answer new = Merges formats files number history parent strategy tries old answer new ⊎ Lacks reply.Memory old answer new
-Means formats files procs number history old (Watch parent room) answer new = Watches history parent room old answer new ⊎ Lacks reply.Memory old answer new
-Means formats files procs number history old Poll answer new = IsUnwatched old answer new ⊎ (Polls history old answer new ⊎ Lacks reply.Memory old answer new)
+Means formats files procs number history old (Put name value) answer new =
+    Edits (put_value old.working name value) old answer new ⊎ Lacks reply.Memory old answer new
+Means formats files procs number history old (MetaStep name meta value) answer new =
+    Edits (put_meta old.working name meta value) old answer new ⊎ Lacks reply.Memory old answer new
+Means formats files procs number history old (Del name) answer new =
+    Edits (map.remove old.working name) old answer new ⊎ Lacks reply.Memory old answer new
+Means formats files procs number history old (Cut name) answer new =
+    Edits (not_below name old.working) old answer new ⊎ Lacks reply.Memory old answer new
+Means formats files procs number history old (Look name) answer new =
+    Looks name old answer new ⊎ Lacks reply.Memory old answer new
+Means formats files procs number history old (Set parent) answer new =
+    MeansSet formats (store_at files) number history parent old.working old answer new
+Means formats files procs number history old (Merge parent strategy tries) answer new =
+    Merges formats files number history parent strategy tries old answer new ⊎ Lacks reply.Memory old answer new
+Means formats files procs number history old (Watch parent room) answer new =
+    Watches history parent room old answer new ⊎ Lacks reply.Memory old answer new
+Means formats files procs number history old Poll answer new =
+    IsUnwatched old answer new ⊎ (Polls history old answer new ⊎ Lacks reply.Memory old answer new)
 Means formats files procs number history old (Undo undone) answer new =
     Undoes formats files procs number history undone old answer new ⊎ (Lacks (reply.UndoRefused undo_fault.Memory) old answer new ⊎ Lacks reply.Memory old answer new)

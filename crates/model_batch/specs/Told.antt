@@ -50,4 +50,5 @@ numbers_by number history = numbers_from number 1 history
 -- how many commits others made
 abbrev pub count_of_others : ℕ → List Commit → ℕ
 count_of_others number [] = 0
-count_of_others number (commit ∷ history) = if nat_eq commit.handle number then count_of_others number history else count_of_others number history + 1
+count_of_others number (commit ∷ history) =
+    if nat_eq commit.handle number then count_of_others number history else count_of_others number history + 1

@@ -21,7 +21,8 @@ use Rattle.store_core.specs.declared.committing.Done.TheVariants.{Committed, Sam
 
 -- what the undoing of a commit goes by in a session, by the first so many commits
 abbrev pub undo_then : List MountedFile → KeyMap → ℕ → Record → List Commit → ℕ → Undo
-undo_then files procs number rec past undone = record { files = files; handle = number; procs = procs; rec = rec; history = past; number = undone }
+undo_then files procs number rec past undone =
+    record { files = files; handle = number; procs = procs; rec = rec; history = past; number = undone }
 
 -- of how many commits a session knows behind it: of its own, or of those by which it was judged, also where the reply
 -- doesn't tell them

@@ -21,7 +21,8 @@ pub record Watches (history : List Commit) (parent : Name) (room : ℕ) (old : S
   pub begins : IsPrefix past history
   pub no_less : old.told ≤ length past
   pub reply_is : answer ≡ reply.Watching (length past)
-  pub new_is : new ≡ record old { told = length past; watching = Some (record { parent = parent; room = room; from = length past }) }
+  pub new_is : new
+      ≡ record old { told = length past; watching = Some (record { parent = parent; room = room; from = length past }) }
 
 -- all that changed since in the first so many commits
 abbrev pub changes_then : Watching → List Commit → List Changed
@@ -30,7 +31,11 @@ changes_then watched past = news past watched.from (length past) watched.parent
 -- what is told of that: the last changes, as many as there is room for, and the number of the others
 abbrev pub news_then : Watching → List Commit → News
 news_then watched past =
-    record { front = length past; missed = length (changes_then watched past) - watched.room; changes = keep_last watched.room (changes_then watched past) }
+    record {
+      front = length past;
+      missed = length (changes_then watched past) - watched.room;
+      changes = keep_last watched.room (changes_then watched past);
+    }
 
 -- The session is told what changed in the first so many commits, no fewer than it was told of, and watches from there
 -- on

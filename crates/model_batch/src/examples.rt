@@ -16,8 +16,10 @@ ghost use Rattle.store_core.specs.declared.committing.Done.TheVariants as done;
 
 /// Of three commits the handle 1 made the first and the last.
 pub fn commits_go_by_their_handles()
-    ensures first { numbers_by 1 (record { handle = 1; touched = 0 ∷ []; changes = [] } ∷ record { handle = 2; touched = 0 ∷ []; changes = [] } ∷ record { handle = 1; touched = 1 ∷ []; changes = [] } ∷ []) ≡ 1 ∷ 3 ∷ [] }
-    ensures second { numbers_by 2 (record { handle = 1; touched = 0 ∷ []; changes = [] } ∷ record { handle = 2; touched = 0 ∷ []; changes = [] } ∷ record { handle = 1; touched = 1 ∷ []; changes = [] } ∷ []) ≡ 2 ∷ [] }
+    ensures first { numbers_by 1 (record { handle = 1; touched = 0 ∷ []; changes = [] } ∷ record { handle = 2; touched = 0 ∷ []; changes = [] } ∷ record { handle = 1; touched = 1 ∷ []; changes = [] } ∷ [])
+        ≡ 1 ∷ 3 ∷ [] }
+    ensures second { numbers_by 2 (record { handle = 1; touched = 0 ∷ []; changes = [] } ∷ record { handle = 2; touched = 0 ∷ []; changes = [] } ∷ record { handle = 1; touched = 1 ∷ []; changes = [] } ∷ [])
+        ≡ 2 ∷ [] }
 {}
 
 /// A commit tells its number, and that it found one fewer; a set that the disk failed, or whose file would be too
@@ -28,7 +30,8 @@ pub fn replies_tell_fronts()
     ensures got { fronts_told (reply.Got 4 2) ≡ 4 ∷ [] }
     ensures failed { failures_told (reply.SetRefused (fault.Commit (commit.DiskFault 5))) ≡ 1 }
     ensures found { fronts_told (reply.SetRefused (fault.Commit (commit.DiskFault 5))) ≡ 5 ∷ [] }
-    ensures large { (mount : Name) → fronts_told (reply.SetRefused (fault.Commit (commit.FileTooLarge mount 1048577 5))) ≡ 5 ∷ [] }
+    ensures large { (mount : Name)
+        → fronts_told (reply.SetRefused (fault.Commit (commit.FileTooLarge mount 1048577 5))) ≡ 5 ∷ [] }
     ensures watching { fronts_told (reply.Watching 4) ≡ 4 ∷ [] }
     ensures news { fronts_told (reply.News (record { front = 6; missed = 1; changes = [] })) ≡ 6 ∷ [] }
     ensures quiet { fronts_told reply.Quiet ≡ [] }
@@ -48,17 +51,29 @@ pub fn undos_tell_fronts()
 /// A merge that met two conflicts tells two fronts of each try and the one of its end, and who was in the way; it is
 /// told as a commit, as spent, or as cut off by keys in conflict.
 pub fn merges_tell_their_tries()
-    ensures merged { (mount : Name) → fronts_told (reply.Merged (record { tried = record { mount = mount; by = 3; front = 4; again = 4 } ∷ record { mount = mount; by = 5; front = 6; again = 7 } ∷ []; done = done.Committed 9 0 })) ≡ 4 ∷ 4 ∷ 6 ∷ 7 ∷ 8 ∷ [] }
-    ensures number { (mount : Name) → numbers_told (reply.Merged (record { tried = record { mount = mount; by = 3; front = 4; again = 4 } ∷ []; done = done.Committed 9 0 })) ≡ 9 ∷ [] }
-    ensures spent { (mount : Name) → fronts_told (reply.MergeRefused (record { tried = record { mount = mount; by = 3; front = 4; again = 4 } ∷ []; end = end.TriesSpent mount 5 6 })) ≡ 4 ∷ 4 ∷ 6 ∷ [] }
-    ensures in_the_way { (mount : Name) → conflicts_told (reply.MergeRefused (record { tried = record { mount = mount; by = 3; front = 4; again = 4 } ∷ []; end = end.TriesSpent mount 5 6 })) ≡ 3 ∷ 5 ∷ [] }
-    ensures cut { (mount name : Name) → fronts_told (reply.MergeRefused (record { tried = record { mount = mount; by = 3; front = 4; again = 4 } ∷ []; end = end.MergeConflicts (name ∷ []) })) ≡ 4 ∷ 4 ∷ [] }
-    ensures failed { failures_told (reply.MergeRefused (record { tried = []; end = end.Set (fault.Commit (commit.DiskFault 5)) })) ≡ 1 }
+    ensures merged { (mount : Name)
+        → fronts_told (reply.Merged (record { tried = record { mount = mount; by = 3; front = 4; again = 4 } ∷ record { mount = mount; by = 5; front = 6; again = 7 } ∷ []; done = done.Committed 9 0 }))
+        ≡ 4 ∷ 4 ∷ 6 ∷ 7 ∷ 8 ∷ [] }
+    ensures number { (mount : Name)
+        → numbers_told (reply.Merged (record { tried = record { mount = mount; by = 3; front = 4; again = 4 } ∷ []; done = done.Committed 9 0 }))
+        ≡ 9 ∷ [] }
+    ensures spent { (mount : Name)
+        → fronts_told (reply.MergeRefused (record { tried = record { mount = mount; by = 3; front = 4; again = 4 } ∷ []; end = end.TriesSpent mount 5 6 }))
+        ≡ 4 ∷ 4 ∷ 6 ∷ [] }
+    ensures in_the_way { (mount : Name)
+        → conflicts_told (reply.MergeRefused (record { tried = record { mount = mount; by = 3; front = 4; again = 4 } ∷ []; end = end.TriesSpent mount 5 6 }))
+        ≡ 3 ∷ 5 ∷ [] }
+    ensures cut { (mount name : Name)
+        → fronts_told (reply.MergeRefused (record { tried = record { mount = mount; by = 3; front = 4; again = 4 } ∷ []; end = end.MergeConflicts (name ∷ []) }))
+        ≡ 4 ∷ 4 ∷ [] }
+    ensures failed { failures_told (reply.MergeRefused (record { tried = []; end = end.Set (fault.Commit (commit.DiskFault 5)) }))
+        ≡ 1 }
 {}
 
 /// Of three commits, two of which the handle 1 made, one is another's.
 pub fn others_are_counted()
-    ensures { count_of_others 1 (record { handle = 1; touched = 0 ∷ []; changes = [] } ∷ record { handle = 2; touched = 0 ∷ []; changes = [] } ∷ record { handle = 1; touched = 1 ∷ []; changes = [] } ∷ []) ≡ 1 }
+    ensures { count_of_others 1 (record { handle = 1; touched = 0 ∷ []; changes = [] } ∷ record { handle = 2; touched = 0 ∷ []; changes = [] } ∷ record { handle = 1; touched = 1 ∷ []; changes = [] } ∷ [])
+        ≡ 1 }
 {}
 
 /// A script in which the sessions 2 and 5 have steps in the first phase, 5 alone in the second, and 7 has a key in

@@ -26,10 +26,13 @@ use storage_api::Formats;
 /// In fair transcripts each commit that a session is told of as in the way is another's. So a session alone is told of
 /// none.
 pub fn a_conflict_is_with_the_commit_of_another<F: Formats>(_formats: &F)
-    ensures anothers { (files : List MountedFile) (sessions : ℕ) (procs : ℕ → KeyMap) (history : List Commit) (steps : List (List (List Step))) (replies : List (List (List Reply)))
+    ensures anothers { (files : List MountedFile) (sessions : ℕ) (procs : ℕ → KeyMap) (history : List Commit)
+        (steps : List (List (List Step))) (replies : List (List (List Reply)))
         → IsFair (formats_of F.Formats) files sessions procs history steps replies
-        → (i : ℕ) → i < sessions → AllByRecursion (λ answer. AllByRecursion (IsAnothers (i + 1) history) (conflicts_told answer)) (of_session i replies) }
-    ensures alone { (files : List MountedFile) (sessions : ℕ) (procs : ℕ → KeyMap) (history : List Commit) (steps : List (List (List Step))) (replies : List (List (List Reply)))
+        → (i : ℕ) → i < sessions
+        → AllByRecursion (λ answer. AllByRecursion (IsAnothers (i + 1) history) (conflicts_told answer)) (of_session i replies) }
+    ensures alone { (files : List MountedFile) (sessions : ℕ) (procs : ℕ → KeyMap) (history : List Commit)
+        (steps : List (List (List Step))) (replies : List (List (List Reply)))
         → sessions ≡ 1 → IsFair (formats_of F.Formats) files sessions procs history steps replies
         → AllByRecursion (λ answer. conflicts_told answer ≡ []) (of_session 0 replies) }
 {}
@@ -37,24 +40,33 @@ pub fn a_conflict_is_with_the_commit_of_another<F: Formats>(_formats: &F)
 /// In fair transcripts a merge spends all its tries only where others made as many commits: each try met one more of
 /// them.
 pub fn a_merge_is_not_spent_by_fewer_commits_than_its_tries<F: Formats>(_formats: &F)
-    ensures { (files : List MountedFile) (sessions : ℕ) (procs : ℕ → KeyMap) (history : List Commit) (steps : List (List (List Step))) (replies : List (List (List Reply)))
+    ensures { (files : List MountedFile) (sessions : ℕ) (procs : ℕ → KeyMap) (history : List Commit)
+        (steps : List (List (List Step))) (replies : List (List (List Reply)))
         → IsFair (formats_of F.Formats) files sessions procs history steps replies
-        → (i at : ℕ) → i < sessions → (parent : Name) (strategy : Strategy) (tries : ℕ) → slice_get (of_session i steps) at ≡ Some (step.Merge parent strategy tries)
-        → (tried : List Tried) (mount : Name) (by front : ℕ) → slice_get (of_session i replies) at ≡ Some (reply.MergeRefused (record { tried = tried; end = merge_end.TriesSpent mount by front }))
+        → (i at : ℕ) → i < sessions → (parent : Name) (strategy : Strategy) (tries : ℕ)
+        → slice_get (of_session i steps) at ≡ Some (step.Merge parent strategy tries)
+        → (tried : List Tried) (mount : Name) (by front : ℕ)
+        → slice_get (of_session i replies) at
+        ≡ Some (reply.MergeRefused (record { tried = tried; end = merge_end.TriesSpent mount by front }))
         → tries ≤ count_of_others (i + 1) history }
 {}
 
 /// Behind a session's watch, its polls one after the other tell each change at or below the parent once and in order,
 /// or count it among those that they missed, until another watch begins. By `fair` so it is in fair transcripts.
 pub fn a_session_is_told_each_change_once<F: Formats>(_formats: &F)
-    ensures behind { (files : List MountedFile) (procs : KeyMap) (number : ℕ) (history : List Commit) (old new : Session) (parent : Name) (room front : ℕ) (steps : List Step) (replies : List Reply)
+    ensures behind { (files : List MountedFile) (procs : KeyMap) (number : ℕ) (history : List Commit)
+        (old new : Session) (parent : Name) (room front : ℕ) (steps : List Step) (replies : List Reply)
         → Tells (formats_of F.Formats) files procs number history old (step.Watch parent room ∷ steps) (reply.Watching front ∷ replies) new
         → AllByRecursion (λ answer. begins_watch answer ≡ false) replies
         → Follows history (record { parent = parent; room = room; from = front }) replies new }
-    ensures fair { (files : List MountedFile) (sessions : ℕ) (procs : ℕ → KeyMap) (history : List Commit) (steps : List (List (List Step))) (replies : List (List (List Reply)))
+    ensures fair { (files : List MountedFile) (sessions : ℕ) (procs : ℕ → KeyMap) (history : List Commit)
+        (steps : List (List (List Step))) (replies : List (List (List Reply)))
         → IsFair (formats_of F.Formats) files sessions procs history steps replies
-        → (i : ℕ) → i < sessions → (before later : List Step) (answers others : List Reply) (parent : Name) (room front : ℕ) → length before ≡ length answers
-        → of_session i steps ≡ before ++ step.Watch parent room ∷ later → of_session i replies ≡ answers ++ reply.Watching front ∷ others
+        → (i : ℕ) → i < sessions
+        → (before later : List Step) (answers others : List Reply) (parent : Name) (room front : ℕ)
+        → length before ≡ length answers
+        → of_session i steps ≡ before ++ step.Watch parent room ∷ later
+        → of_session i replies ≡ answers ++ reply.Watching front ∷ others
         → AllByRecursion (λ answer. begins_watch answer ≡ false) others
         → (last : Session) × Follows history (record { parent = parent; room = room; from = front }) others last }
 {}

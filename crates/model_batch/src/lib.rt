@@ -30,14 +30,17 @@ use storage_api::Formats;
 /// A session is told step by step: what its steps mean stays so when the history goes on, and goes on from where other
 /// steps ended. The number of commits that it was told of never falls, and each front is at least that number at first.
 pub fn a_session_is_told_step_by_step<F: Formats>(_formats: &F)
-    ensures more { (files : List MountedFile) (procs : KeyMap) (number : ℕ) (history longer : List Commit) (old new : Session) (steps : List Step) (answers : List Reply)
+    ensures more { (files : List MountedFile) (procs : KeyMap) (number : ℕ) (history longer : List Commit)
+        (old new : Session) (steps : List Step) (answers : List Reply)
         → IsPrefix history longer → Tells (formats_of F.Formats) files procs number history old steps answers new
         → Tells (formats_of F.Formats) files procs number longer old steps answers new }
-    ensures both { (files : List MountedFile) (procs : KeyMap) (number : ℕ) (history : List Commit) (old mid new : Session) (steps later : List Step) (answers others : List Reply)
+    ensures both { (files : List MountedFile) (procs : KeyMap) (number : ℕ) (history : List Commit)
+        (old mid new : Session) (steps later : List Step) (answers others : List Reply)
         → Tells (formats_of F.Formats) files procs number history old steps answers mid
         → Tells (formats_of F.Formats) files procs number history mid later others new
         → Tells (formats_of F.Formats) files procs number history old (steps ++ later) (answers ++ others) new }
-    ensures later { (files : List MountedFile) (procs : KeyMap) (number : ℕ) (history : List Commit) (old new : Session) (steps : List Step) (answers : List Reply)
+    ensures later { (files : List MountedFile) (procs : KeyMap) (number : ℕ) (history : List Commit) (old new : Session)
+        (steps : List Step) (answers : List Reply)
         → Tells (formats_of F.Formats) files procs number history old steps answers new
         → (old.told ≤ new.told) × AllByRecursion (IsAtLeast old.told) answers }
 {}

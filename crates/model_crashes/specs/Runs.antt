@@ -55,7 +55,8 @@ begun_before (Some entry) = (0, entry) ∷ []
 
 -- a run that begins
 abbrev pub new_run : List (List ℕ) → Image → ℕ → Option (List FileText) → Run
-new_run names files faults doubt = record { names = names; files = files; faults = faults; commits = []; begun = begun_before doubt; doubt = doubt }
+new_run names files faults doubt =
+    record { names = names; files = files; faults = faults; commits = []; begun = begun_before doubt; doubt = doubt }
 
 -- an entry was begun and not acknowledged
 abbrev pub after_begun : Run → List FileText → Option (List FileText) → Run

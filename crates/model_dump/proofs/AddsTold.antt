@@ -93,8 +93,10 @@ copy-told before source_text name = elim (spells-told (47 ∷ source_text)) as (
         same : {after : Progress} (copies : CopiesMeta before source_text name after) → source ≡ copies.source
         same copies = Spells-once (47 ∷ source_text) source copies.source spells copies.spelled
 
-        entries : {after : Progress} (entry : Entry) → map.get before.keys source ≡ Some entry → (copies : CopiesMeta before source_text name after) → entry ≡ copies.entry
-        entries entry found copies = found_once entry copies.entry found (ap (map.get before.keys) (same copies) ∙ copies.found)
+        entries : {after : Progress} (entry : Entry) → map.get before.keys source ≡ Some entry
+            → (copies : CopiesMeta before source_text name after) → entry ≡ copies.entry
+        entries entry found copies =
+            found_once entry copies.entry found (ap (map.get before.keys) (same copies) ∙ copies.found)
 
 by-told : (kind : RecordKind) (before : Progress) (first second : List ℕ) → Told (AddsBy kind before first second)
 by-told KeyKind = key-told

@@ -20,7 +20,9 @@ reads_or_bad bytes = elim (Reads-or_else Adds Adds-told bytes) as (λ _. ((keys 
 ]
 
 one_line : (bytes : List ℕ) (line other : ℕ) → IsBadAt Adds bytes line → IsBadAt Adds bytes other → line ≡ other
-one_line bytes line other bad again = bad.is ∙ (ap (line_at bytes) (Stops-once Adds Adds-once bytes bad.place again.place bad.stops again.stops) ∙ sym again.is)
+one_line bytes line other bad again =
+    bad.is
+    ∙ (ap (line_at bytes) (Stops-once Adds Adds-once bytes bad.place again.place bad.stops again.stops) ∙ sym again.is)
 
 pub dump-lawful : IsLawful dump
 dump-lawful = record {

@@ -35,51 +35,74 @@ pub data Compared (Step : Progress → Record → Progress → Type 0) (rs ss : 
   FirstStopped : GoesOn Step a x → Compared Step rs ss a b x y
   SecondStopped : GoesOn Step b y → Compared Step rs ss a b x y
 
-goes_on : (Step : Progress → Record → Progress → Type 0) (before a middle : Progress) (r : Record) (more x y : List ℕ) → before ≡ a → IsSized r → Step before r middle → x ≡ (spelled_record r ++ more) ++ y → GoesOn Step a x
+goes_on : (Step : Progress → Record → Progress → Type 0) (before a middle : Progress) (r : Record) (more x y : List ℕ)
+    → before ≡ a → IsSized r → Step before r middle → x ≡ (spelled_record r ++ more) ++ y → GoesOn Step a x
 goes_on Step before a middle r more x y same sized step e =
-    record { next = r; after = middle; more = more ++ y; sized = sized; step = subst (λ p. Step p r middle) same step; whole = e ∙ append_assoc (spelled_record r) more y }
+    record {
+      next = r;
+      after = middle;
+      more = more ++ y;
+      sized = sized;
+      step = subst (λ p. Step p r middle) same step;
+      whole = e ∙ append_assoc (spelled_record r) more y;
+    }
 
-behind_one : (Step : Progress → Record → Progress → Type 0) (r s : Record) (rs ss : List Record) (a b : Progress) (x y : List ℕ) → r ≡ s → Compared Step rs ss a b x y → Compared Step (r ∷ rs) (s ∷ ss) a b x y
-behind_one Step r s rs ss a b x y one (Same same) = Same (record { records = λ i. one i ∷ same.records i; progress = same.progress; rest = same.rest })
+behind_one : (Step : Progress → Record → Progress → Type 0) (r s : Record) (rs ss : List Record) (a b : Progress)
+    (x y : List ℕ) → r ≡ s → Compared Step rs ss a b x y → Compared Step (r ∷ rs) (s ∷ ss) a b x y
+behind_one Step r s rs ss a b x y one (Same same) =
+    Same (record { records = λ i. one i ∷ same.records i; progress = same.progress; rest = same.rest })
 behind_one Step r s rs ss a b x y one (FirstStopped next) = FirstStopped next
 behind_one Step r s rs ss a b x y one (SecondStopped next) = SecondStopped next
 
-no_bytes_begin : (Step : Progress → Record → Progress → Type 0) (bytes : List ℕ) (records : List Record) (progress : Progress) (rest : List ℕ) → bytes ≡ [] → Begins Step bytes records progress rest → ⊥
+no_bytes_begin : (Step : Progress → Record → Progress → Type 0) (bytes : List ℕ) (records : List Record)
+    (progress : Progress) (rest : List ℕ) → bytes ≡ [] → Begins Step bytes records progress rest → ⊥
 no_bytes_begin Step bytes records progress rest none begins = let some = sym none ∙ begins.whole in absurd cc
 
 -- the ending is no record
-pub GoesOn-ending : (Step : Progress → Record → Progress → Type 0) (progress : Progress) (rest z : List ℕ) → rest ≡ ending ++ z → GoesOn Step progress rest → ⊥
+pub GoesOn-ending : (Step : Progress → Record → Progress → Type 0) (progress : Progress) (rest z : List ℕ)
+    → rest ≡ ending ++ z → GoesOn Step progress rest → ⊥
 GoesOn-ending Step progress rest z e next = spelled_record-ending next.next next.more z (sym next.whole ∙ e)
 
-pub GoesOn-dump_end : (Step : Progress → Record → Progress → Type 0) (progress : Progress) (rest : List ℕ) → (rest ≡ ending) ⊎ (rest ≡ ending ++ 10 ∷ []) → GoesOn Step progress rest → ⊥
+pub GoesOn-dump_end : (Step : Progress → Record → Progress → Type 0) (progress : Progress) (rest : List ℕ)
+    → (rest ≡ ending) ⊎ (rest ≡ ending ++ 10 ∷ []) → GoesOn Step progress rest → ⊥
 GoesOn-dump_end Step progress rest (inl e) = GoesOn-ending Step progress rest [] e
 GoesOn-dump_end Step progress rest (inr e) = GoesOn-ending Step progress rest (10 ∷ []) e
 
-pub GoesOn-no_next : (Step : Progress → Record → Progress → Type 0) (progress : Progress) (rest : List ℕ) → HasNoNext Step progress rest → GoesOn Step progress rest → ⊥
-GoesOn-no_next Step progress rest none next = none.no_record next.next next.after next.more next.sized next.step next.whole
+pub GoesOn-no_next : (Step : Progress → Record → Progress → Type 0) (progress : Progress) (rest : List ℕ)
+    → HasNoNext Step progress rest → GoesOn Step progress rest → ⊥
+GoesOn-no_next Step progress rest none next =
+    none.no_record next.next next.after next.more next.sized next.step next.whole
 
-no_dump_end : (Step : Progress → Record → Progress → Type 0) (progress : Progress) (rest : List ℕ) → HasNoNext Step progress rest → (rest ≡ ending) ⊎ (rest ≡ ending ++ 10 ∷ []) → ⊥
+no_dump_end : (Step : Progress → Record → Progress → Type 0) (progress : Progress) (rest : List ℕ)
+    → HasNoNext Step progress rest → (rest ≡ ending) ⊎ (rest ≡ ending ++ 10 ∷ []) → ⊥
 no_dump_end Step progress rest none (inl e) = none.no_end e
 no_dump_end Step progress rest none (inr e) = none.no_end_line [] e
 
-nothing_behind : (more : List ℕ) → more ≢ [] → (ending ++ 10 ∷ more ≡ ending) ⊎ (ending ++ 10 ∷ more ≡ ending ++ 10 ∷ []) → ⊥
+nothing_behind : (more : List ℕ) → more ≢ []
+    → (ending ++ 10 ∷ more ≡ ending) ⊎ (ending ++ 10 ∷ more ≡ ending ++ 10 ∷ []) → ⊥
 nothing_behind more some (inl e) = let longer = ap length e in absurd (omega arith)
 nothing_behind more some (inr e) = some (append_cancel_left (ending ++ 10 ∷ []) more [] e)
 
 at_same_rest : (x y : List ℕ) → x ≡ y → (x ≡ ending) ⊎ (x ≡ ending ++ 10 ∷ []) → (y ≡ ending) ⊎ (y ≡ ending ++ 10 ∷ [])
 at_same_rest x y same ends = subst (λ z. (z ≡ ending) ⊎ (z ≡ ending ++ 10 ∷ [])) same ends
 
-same_if_none_goes_on : (Step : Progress → Record → Progress → Type 0) (rs ss : List Record) (a b : Progress) (x y : List ℕ) → Compared Step rs ss a b x y → (GoesOn Step a x → ⊥) → (GoesOn Step b y → ⊥) → IsSameReading rs ss a b x y
+same_if_none_goes_on : (Step : Progress → Record → Progress → Type 0) (rs ss : List Record) (a b : Progress)
+    (x y : List ℕ) → Compared Step rs ss a b x y → (GoesOn Step a x → ⊥) → (GoesOn Step b y → ⊥)
+    → IsSameReading rs ss a b x y
 same_if_none_goes_on Step rs ss a b x y (Same same) f g = same
 same_if_none_goes_on Step rs ss a b x y (FirstStopped next) f g = absurd (f next)
 same_if_none_goes_on Step rs ss a b x y (SecondStopped next) f g = absurd (g next)
 
 module _ (Step : Progress → Record → Progress → Type 0) (functional : IsFunctional Step) where
   -- two readings of the same bytes from one progress
-  pub Leads-compared : (before : Progress) (rs ss : List Record) (a b : Progress) (x y : List ℕ) → Leads Step before rs a → Leads Step before ss b → flat_map spelled_record rs ++ x ≡ flat_map spelled_record ss ++ y → Compared Step rs ss a b x y
+  pub Leads-compared : (before : Progress) (rs ss : List Record) (a b : Progress) (x y : List ℕ)
+      → Leads Step before rs a → Leads Step before ss b
+      → flat_map spelled_record rs ++ x ≡ flat_map spelled_record ss ++ y → Compared Step rs ss a b x y
   Leads-compared before [] [] a b x y p q e = Same (record { records = refl; progress = sym p ∙ q; rest = e })
-  Leads-compared before [] (s ∷ ss) a b x y p q e = FirstStopped (goes_on Step before a q.0 s (flat_map spelled_record ss) x y p q.1 q.2 e)
-  Leads-compared before (r ∷ rs) [] a b x y p q e = SecondStopped (goes_on Step before b p.0 r (flat_map spelled_record rs) y x q p.1 p.2 (sym e))
+  Leads-compared before [] (s ∷ ss) a b x y p q e =
+      FirstStopped (goes_on Step before a q.0 s (flat_map spelled_record ss) x y p q.1 q.2 e)
+  Leads-compared before (r ∷ rs) [] a b x y p q e =
+      SecondStopped (goes_on Step before b p.0 r (flat_map spelled_record rs) y x q p.1 p.2 (sym e))
   Leads-compared before (r ∷ rs) (s ∷ ss) a b x y p q e =
       let regrouped = sym (append_assoc (spelled_record r) (flat_map spelled_record rs) x) ∙ e ∙ append_assoc (spelled_record s) (flat_map spelled_record ss) y in
       let one = spelled_record-once r s _ _ regrouped p.1 q.1 in
@@ -87,13 +110,16 @@ module _ (Step : Progress → Record → Progress → Type 0) (functional : IsFu
       behind_one Step r s rs ss a b x y one.0 (Leads-compared q.0 rs ss a b x y (subst (λ m. Leads Step m rs a) middle p.3) q.3 one.1)
 
   -- two readings of the same bytes from their first on
-  pub Begins-compared : (bytes : List ℕ) (rs ss : List Record) (a b : Progress) (x y : List ℕ) → Begins Step bytes rs a x → Begins Step bytes ss b y → Compared Step rs ss a b x y
+  pub Begins-compared : (bytes : List ℕ) (rs ss : List Record) (a b : Progress) (x y : List ℕ)
+      → Begins Step bytes rs a x → Begins Step bytes ss b y → Compared Step rs ss a b x y
   Begins-compared bytes rs ss a b x y p q =
       Leads-compared start rs ss a b x y p.leads q.leads (append_cancel_left header _ _ (sym p.whole ∙ q.whole))
 
   -- two readings of the same bytes that both go on nowhere are one
-  pub Begins-once : (bytes : List ℕ) (rs ss : List Record) (a b : Progress) (x y : List ℕ) → Begins Step bytes rs a x → Begins Step bytes ss b y → (GoesOn Step a x → ⊥) → (GoesOn Step b y → ⊥) → IsSameReading rs ss a b x y
-  Begins-once bytes rs ss a b x y p q f g = same_if_none_goes_on Step rs ss a b x y (Begins-compared bytes rs ss a b x y p q) f g
+  pub Begins-once : (bytes : List ℕ) (rs ss : List Record) (a b : Progress) (x y : List ℕ) → Begins Step bytes rs a x
+      → Begins Step bytes ss b y → (GoesOn Step a x → ⊥) → (GoesOn Step b y → ⊥) → IsSameReading rs ss a b x y
+  Begins-once bytes rs ss a b x y p q f g =
+      same_if_none_goes_on Step rs ss a b x y (Begins-compared bytes rs ss a b x y p q) f g
 
   -- bytes read as at most one map
   pub Reads-once : (bytes : List ℕ) (a b : KeyMap) → Reads Step bytes a → Reads Step bytes b → a ≡ b
@@ -105,13 +131,15 @@ module _ (Step : Progress → Record → Progress → Type 0) (functional : IsFu
       p.made ∙ ap (λ (progress : Progress). progress.keys) same.progress ∙ sym q.made
 
   -- a whole dump stops nowhere behind some records
-  dump_or_inside : (bytes : List ℕ) (keys : KeyMap) (place : ℕ) → IsDump Step bytes keys → StopsInside Step bytes place → ⊥
+  dump_or_inside : (bytes : List ℕ) (keys : KeyMap) (place : ℕ) → IsDump Step bytes keys → StopsInside Step bytes place
+      → ⊥
   dump_or_inside bytes keys place p q =
       let same = Begins-once bytes p.records q.records p.progress q.progress p.rest q.rest p.begins q.begins (GoesOn-dump_end Step p.progress p.rest p.ends) (GoesOn-no_next Step q.progress q.rest q.stops) in
       no_dump_end Step q.progress q.rest q.stops (at_same_rest p.rest q.rest same.rest p.ends)
 
   -- a whole dump has nothing behind the ending's line
-  dump_or_behind : (bytes : List ℕ) (keys : KeyMap) (place : ℕ) → IsDump Step bytes keys → StopsBehind Step bytes place → ⊥
+  dump_or_behind : (bytes : List ℕ) (keys : KeyMap) (place : ℕ) → IsDump Step bytes keys → StopsBehind Step bytes place
+      → ⊥
   dump_or_behind bytes keys place p q =
       let same = Begins-once bytes p.records q.records p.progress q.progress p.rest (ending ++ 10 ∷ q.more) p.begins q.begins (GoesOn-dump_end Step p.progress p.rest p.ends) (GoesOn-ending Step q.progress _ (10 ∷ q.more) refl) in
       nothing_behind q.more q.some_more (at_same_rest p.rest _ same.rest p.ends)
@@ -119,7 +147,8 @@ module _ (Step : Progress → Record → Progress → Type 0) (functional : IsFu
   -- bytes that read as a map stop nowhere
   pub Reads-or-stops : (bytes : List ℕ) (keys : KeyMap) (place : ℕ) → Reads Step bytes keys → Stops Step bytes place → ⊥
   Reads-or-stops bytes keys place (inl p) (AtHeader q) = q.some p.0
-  Reads-or-stops bytes keys place (inl p) (Inside q) = no_bytes_begin Step bytes q.records q.progress q.rest p.0 q.begins
+  Reads-or-stops bytes keys place (inl p) (Inside q) =
+      no_bytes_begin Step bytes q.records q.progress q.rest p.0 q.begins
   Reads-or-stops bytes keys place (inl p) (Behind q) = no_bytes_begin Step bytes q.records q.progress _ p.0 q.begins
   Reads-or-stops bytes keys place (inr p) (AtHeader q) = q.no_header _ p.begins.whole
   Reads-or-stops bytes keys place (inr p) (Inside q) = dump_or_inside bytes keys place p q

@@ -38,7 +38,8 @@ adds_a = record {
 }
 
 -- where a record stands that adds nothing, nothing has a reading
-pub HasNoNext-record : (progress : Progress) (r : Record) (more : List ℕ) → IsSized r → ((after : Progress) → Adds progress r after → ⊥) → HasNoNext Adds progress (spelled_record r ++ more)
+pub HasNoNext-record : (progress : Progress) (r : Record) (more : List ℕ) → IsSized r
+    → ((after : Progress) → Adds progress r after → ⊥) → HasNoNext Adds progress (spelled_record r ++ more)
 HasNoNext-record progress r more sized none = record {
   no_record = λ s after x s_sized step e.
       let one = (spelled_record-once s r x more (sym e) s_sized sized).0 in

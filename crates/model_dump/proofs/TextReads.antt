@@ -22,31 +22,40 @@ use Rattle.model_dump.proofs.AddsOnce.{Adds-once}
 use Rattle.model_dump.proofs.Readings.{Reads-once}
 
 -- records that lead on from where others led
-pub Leads-append : (Step : Progress → Record → Progress → Type 0) (rs ss : List Record) (before middle after : Progress) → Leads Step before rs middle → Leads Step middle ss after → Leads Step before (rs ++ ss) after
+pub Leads-append : (Step : Progress → Record → Progress → Type 0) (rs ss : List Record) (before middle after : Progress)
+    → Leads Step before rs middle → Leads Step middle ss after → Leads Step before (rs ++ ss) after
 Leads-append Step [] ss before middle after p q = subst (λ b. Leads Step b ss after) (sym p) q
 Leads-append Step (r ∷ rs) ss before middle after p q = (p.0, p.1, p.2, Leads-append Step rs ss p.0 middle after p.3 q)
 
 -- how far a dump was read when the present key had a part of its metadata
 abbrev at : KeyMap → Name → List ℕ → Meta → Progress
-at before name value meta = record { keys = finite.insert before name (record { value = value; meta = meta }); present = Some name }
+at before name value meta =
+    record { keys = finite.insert before name (record { value = value; meta = meta }); present = Some name }
 
 -- one more metadata of the present key
-at_more : (before : KeyMap) (name : Name) (value : List ℕ) (part : Meta) (meta_name meta_text : List ℕ) → at before name value (finite.insert part meta_name meta_text) ≡ record { keys = finite.insert (at before name value part).keys name (record { value = value; meta = finite.insert part meta_name meta_text }); present = Some name }
+at_more : (before : KeyMap) (name : Name) (value : List ℕ) (part : Meta) (meta_name meta_text : List ℕ)
+    → at before name value (finite.insert part meta_name meta_text)
+    ≡ record { keys = finite.insert (at before name value part).keys name (record { value = value; meta = finite.insert part meta_name meta_text }); present = Some name }
 at_more before name value part meta_name meta_text =
     let entry : Entry = record { value = value; meta = finite.insert part meta_name meta_text } in
     let again = insert-insert name_cmp_total name_cmp-IsAntisymmetric before name (record { value = value; meta = part }) entry in
     λ i. record { keys = sym again i; present = Some name }
 
 -- what such a map weighs
-at_weighs : (before : KeyMap) (name : Name) (value : List ℕ) (whole part : Meta) (rest : List (List ℕ × List ℕ)) → finite.get before name ≡ None → weight before + weight_of_key name (record { value = value; meta = whole }) ≤ heaviest_map → finite.entries whole ≡ finite.entries part ++ rest
+at_weighs : (before : KeyMap) (name : Name) (value : List ℕ) (whole part : Meta) (rest : List (List ℕ × List ℕ))
+    → finite.get before name ≡ None
+    → weight before + weight_of_key name (record { value = value; meta = whole }) ≤ heaviest_map
+    → finite.entries whole ≡ finite.entries part ++ rest
     → weight (at before name value part).keys ≤ heaviest_map
 at_weighs before name value whole part rest new light cut =
     omega (arith, weight-insert before name (record { value = value; meta = part }) new, sum_by-front (λ (m : List ℕ × List ℕ). length m.0 + length m.1) whole part rest cut)
 
 -- the records of the metadata that is left give it to the present key
-meta_leads : (before : KeyMap) (name : Name) (value : List ℕ) (whole : Meta) → finite.get before name ≡ None → weight before + weight_of_key name (record { value = value; meta = whole }) ≤ heaviest_map
+meta_leads : (before : KeyMap) (name : Name) (value : List ℕ) (whole : Meta) → finite.get before name ≡ None
+    → weight before + weight_of_key name (record { value = value; meta = whole }) ≤ heaviest_map
     → ((meta_name meta_text : List ℕ) → finite.get whole meta_name ≡ Some meta_text → IsLimitedMeta meta_name meta_text)
-    → (rest : List (List ℕ × List ℕ)) (part : Meta) → finite.entries whole ≡ finite.entries part ++ rest → Leads Adds (at before name value part) (map record_of_meta rest) (at before name value whole)
+    → (rest : List (List ℕ × List ℕ)) (part : Meta) → finite.entries whole ≡ finite.entries part ++ rest
+    → Leads Adds (at before name value part) (map record_of_meta rest) (at before name value whole)
 meta_leads before name value whole new light each [] part cut = ap (at before name value) (none_left whole part cut)
 meta_leads before name value whole new light each (item ∷ rest) part cut =
     let limited = each item.0 item.1 (next_is_there nat_list_cmp_total whole part item rest cut) in
@@ -71,7 +80,8 @@ meta_leads before name value whole new light each (item ∷ rest) part cut =
     (_, record { first = omega arith; second = omega arith }, adds, meta_leads before name value whole new light each rest (finite.insert part item.0 item.1) joined)
 
 -- a key's own record
-key_adds : (before : KeyMap) (name : Name) (entry : Entry) (present : Option Name) → finite.get before name ≡ None → IsLimitedKey name entry → weight before + weight_of_key name entry ≤ heaviest_map
+key_adds : (before : KeyMap) (name : Name) (entry : Entry) (present : Option Name) → finite.get before name ≡ None
+    → IsLimitedKey name entry → weight before + weight_of_key name entry ≤ heaviest_map
     → Adds (record { keys = before; present = present }) (record { kind = KeyKind; first = relative_text name; second = entry.value }) (at before name entry.value finite.empty)
 key_adds before name entry present new limited light = record {
   adds = record {
@@ -85,7 +95,8 @@ key_adds before name entry present new limited light = record {
 }
 
 -- a key's records add it with its metadata
-key_leads : (before : KeyMap) (name : Name) (entry : Entry) (present : Option Name) → finite.get before name ≡ None → IsLimitedKey name entry → weight before + weight_of_key name entry ≤ heaviest_map
+key_leads : (before : KeyMap) (name : Name) (entry : Entry) (present : Option Name) → finite.get before name ≡ None
+    → IsLimitedKey name entry → weight before + weight_of_key name entry ≤ heaviest_map
     → Leads Adds (record { keys = before; present = present }) (records_of_key (name, entry)) (record { keys = finite.insert before name entry; present = Some name })
 key_leads before name entry present new limited light =
     let value_limit = limited.is_value.limit in (
@@ -96,9 +107,12 @@ key_leads before name entry present new limited light =
     )
 
 -- the records of the keys that are left make the whole map
-keys_lead : (whole : KeyMap) → IsLimited whole → (rest : List (Name × Entry)) (part : KeyMap) (present : Option Name) → finite.entries whole ≡ finite.entries part ++ rest
-    → (last : Option Name) × Leads Adds (record { keys = part; present = present }) (flat_map records_of_key rest) (record { keys = whole; present = last })
-keys_lead whole limited [] part present cut = (present, λ i. record { keys = none_left whole part cut i; present = present })
+keys_lead : (whole : KeyMap) → IsLimited whole → (rest : List (Name × Entry)) (part : KeyMap) (present : Option Name)
+    → finite.entries whole ≡ finite.entries part ++ rest
+    → (last : Option Name)
+    × Leads Adds (record { keys = part; present = present }) (flat_map records_of_key rest) (record { keys = whole; present = last })
+keys_lead whole limited [] part present cut =
+    (present, λ i. record { keys = none_left whole part cut i; present = present })
 keys_lead whole limited (key ∷ rest) part present cut =
     let new = next_is_new name_cmp_total whole part key rest cut in
     let joined = next_joins name_cmp_total whole part key rest cut in
@@ -123,7 +137,8 @@ text-reads keys limited =
 
 -- and as no other
 pub text-reads_once : (keys other : KeyMap) → IsLimited keys → Reads Adds (text keys) other → other ≡ keys
-text-reads_once keys other limited reads = Reads-once Adds Adds-once (text keys) other keys reads (text-reads keys limited)
+text-reads_once keys other limited reads =
+    Reads-once Adds Adds-once (text keys) other keys reads (text-reads keys limited)
 
 -- so different maps have different texts
 pub text-injective : (keys other : KeyMap) → IsLimited keys → IsLimited other → text keys ≡ text other → keys ≡ other

@@ -49,9 +49,11 @@ text-told (suc size) (b ∷ bytes) = told-along
     (λ (t : BeginsWithText (suc size) (b ∷ bytes)). shorter t.text t.rest t.sized t.whole)
     (text-told size bytes)
   where
-    shorter : (text rest : List ℕ) → length text ≡ suc size → b ∷ bytes ≡ text ++ (10 ∷ rest) → BeginsWithText size bytes
+    shorter : (text rest : List ℕ) → length text ≡ suc size → b ∷ bytes ≡ text ++ (10 ∷ rest)
+        → BeginsWithText size bytes
     shorter [] rest sized whole = absurd (omega arith)
-    shorter (c ∷ text) rest sized whole = let behind : bytes ≡ text ++ (10 ∷ rest) = cc in record { text = text; rest = rest; sized = omega arith; whole = behind }
+    shorter (c ∷ text) rest sized whole =
+        let behind : bytes ≡ text ++ (10 ∷ rest) = cc in record { text = text; rest = rest; sized = omega arith; whole = behind }
 
 -- behind the line of a record stand its two texts
 pub record HasTexts (m n : ℕ) (bytes : List ℕ) : Type 0 where
@@ -94,7 +96,9 @@ pub record HasRecordOf (kind : RecordKind) (m n : ℕ) (bytes : List ℕ) : Type
 abbrev line_of : RecordKind → ℕ → ℕ → List ℕ
 line_of kind m n = words_of kind ++ (decimal m ++ (32 ∷ (decimal n ++ (10 ∷ []))))
 
-line_of-behind : (kind : RecordKind) (first second rest : List ℕ) → words_of kind ++ (sizes_and_texts first second ++ rest) ≡ line_of kind (length first) (length second) ++ (first ++ (10 ∷ (second ++ (10 ∷ rest))))
+line_of-behind : (kind : RecordKind) (first second rest : List ℕ)
+    → words_of kind ++ (sizes_and_texts first second ++ rest)
+    ≡ line_of kind (length first) (length second) ++ (first ++ (10 ∷ (second ++ (10 ∷ rest))))
 line_of-behind kind first second rest = simp append_assoc
 
 of-told : (kind : RecordKind) (bytes : List ℕ) (m n : ℕ) → IsTold (HasRecordOf kind m n bytes)
@@ -114,7 +118,8 @@ of-told kind bytes m n = elim (front-told (line_of kind m n) bytes) as (λ _. Is
   | inr fails ↦ inr (λ (r : HasRecordOf kind m n bytes). fails (r.first ++ (10 ∷ (r.second ++ (10 ∷ r.rest))), behind r))
 ]
   where
-    behind : (r : HasRecordOf kind m n bytes) → bytes ≡ line_of kind m n ++ (r.first ++ (10 ∷ (r.second ++ (10 ∷ r.rest))))
+    behind : (r : HasRecordOf kind m n bytes)
+        → bytes ≡ line_of kind m n ++ (r.first ++ (10 ∷ (r.second ++ (10 ∷ r.rest))))
     behind r = r.whole ∙ line_of-behind kind r.first r.second r.rest
         ∙ ap (λ k. line_of kind k (length r.second) ++ (r.first ++ (10 ∷ (r.second ++ (10 ∷ r.rest))))) r.first_sized
         ∙ ap (λ k. line_of kind m k ++ (r.first ++ (10 ∷ (r.second ++ (10 ∷ r.rest))))) r.second_sized
@@ -124,17 +129,24 @@ abbrev HasKind : RecordKind → List ℕ → Type 0
 HasKind kind bytes = (m : ℕ) × (m < size_limit) × ((n : ℕ) × (n < size_limit) × HasRecordOf kind m n bytes)
 
 kind-told : (kind : RecordKind) (bytes : List ℕ) → IsTold (HasKind kind bytes)
-kind-told kind bytes = below-told (λ m. (n : ℕ) × (n < size_limit) × HasRecordOf kind m n bytes) (λ m. below-told (λ n. HasRecordOf kind m n bytes) (of-told kind bytes m) size_limit) size_limit
+kind-told kind bytes =
+    below-told (λ m. (n : ℕ) × (n < size_limit) × HasRecordOf kind m n bytes) (λ m. below-told (λ n. HasRecordOf kind m n bytes) (of-told kind bytes m) size_limit) size_limit
 
 of-record : (kind : RecordKind) (bytes : List ℕ) → HasKind kind bytes → HasRecord bytes
 of-record kind bytes found = let f = found.2.2 in
-    record { r = record { kind = kind; first = f.first; second = f.second }; rest = f.rest; sized = record { first = subst (λ k. k < size_limit) (sym f.first_sized) found.1; second = subst (λ k. k < size_limit) (sym f.second_sized) found.2.1 }; whole = f.whole ∙ sym (append_assoc (words_of kind) (sizes_and_texts f.first f.second) f.rest) }
+    record {
+      r = record { kind = kind; first = f.first; second = f.second };
+      rest = f.rest;
+      sized = record { first = subst (λ k. k < size_limit) (sym f.first_sized) found.1; second = subst (λ k. k < size_limit) (sym f.second_sized) found.2.1 };
+      whole = f.whole ∙ sym (append_assoc (words_of kind) (sizes_and_texts f.first f.second) f.rest);
+    }
 
 to-kind : (bytes : List ℕ) (r : HasRecord bytes) → HasKind r.r.kind bytes
 to-kind bytes r =
     (length r.r.first, r.sized.first, (length r.r.second, r.sized.second, record { first = r.r.first; second = r.r.second; rest = r.rest; first_sized = refl; second_sized = refl; whole = r.whole ∙ append_assoc (words_of r.r.kind) (sizes_and_texts r.r.first r.r.second) r.rest }))
 
-no_kind : (bytes : List ℕ) → (HasKind KeyKind bytes → ⊥) → (HasKind MetaKind bytes → ⊥) → (HasKind CopyKind bytes → ⊥) → (kind : RecordKind) → HasKind kind bytes → ⊥
+no_kind : (bytes : List ℕ) → (HasKind KeyKind bytes → ⊥) → (HasKind MetaKind bytes → ⊥) → (HasKind CopyKind bytes → ⊥)
+    → (kind : RecordKind) → HasKind kind bytes → ⊥
 no_kind bytes key meta copy KeyKind = key
 no_kind bytes key meta copy MetaKind = meta
 no_kind bytes key meta copy CopyKind = copy
@@ -183,7 +195,8 @@ module _ (Step : Progress → Record → Progress → Type 0) (decided : IsDecid
     | inr fails ↦ inr (λ (next : GoesOn Step progress rest). fails (record { r = next.next; rest = next.more; sized = next.sized; whole = next.whole }))
   ]
 
-  read_on : (bytes : List ℕ) (most : ℕ) (records : List Record) (progress : Progress) (rest : List ℕ) → length rest < most → Begins Step bytes records progress rest → IsRead Step bytes
+  read_on : (bytes : List ℕ) (most : ℕ) (records : List Record) (progress : Progress) (rest : List ℕ)
+      → length rest < most → Begins Step bytes records progress rest → IsRead Step bytes
   read_on bytes zero records progress rest fits begins = absurd (omega arith)
   read_on bytes (suc most) records progress rest fits begins = elim (next-told progress rest) as (λ _. IsRead Step bytes) [
     | inl next ↦
@@ -194,16 +207,19 @@ module _ (Step : Progress → Record → Progress → Type 0) (decided : IsDecid
   ]
 
   -- behind the last record stands the ending, or something that has no reading
-  ended : (bytes : List ℕ) → IsRead Step bytes → ((keys : KeyMap) × Reads Step bytes keys) ⊎ ((place : ℕ) × Stops Step bytes place)
+  ended : (bytes : List ℕ) → IsRead Step bytes
+      → ((keys : KeyMap) × Reads Step bytes keys) ⊎ ((place : ℕ) × Stops Step bytes place)
   ended bytes read = elim (front-told ending read.rest) as (λ _. ((keys : KeyMap) × Reads Step bytes keys) ⊎ ((place : ℕ) × Stops Step bytes place)) [
     | inl end ↦ at_end end.0 end.1
     | inr fails ↦ inside (λ e. fails ([], e ∙ sym (append-nil ending))) (λ more e. fails (10 ∷ more, e))
   ]
     where
       rest_fits : length read.rest ≤ length bytes
-      rest_fits = omega (arith, ap length read.begins.whole, length-append header (flat_map spelled_record read.records ++ read.rest), length-append (flat_map spelled_record read.records) read.rest)
+      rest_fits =
+          omega (arith, ap length read.begins.whole, length-append header (flat_map spelled_record read.records ++ read.rest), length-append (flat_map spelled_record read.records) read.rest)
 
-      inside : (read.rest ≢ ending) → ((more : List ℕ) → read.rest ≢ ending ++ 10 ∷ more) → ((keys : KeyMap) × Reads Step bytes keys) ⊎ ((place : ℕ) × Stops Step bytes place)
+      inside : (read.rest ≢ ending) → ((more : List ℕ) → read.rest ≢ ending ++ 10 ∷ more)
+          → ((keys : KeyMap) × Reads Step bytes keys) ⊎ ((place : ℕ) × Stops Step bytes place)
       inside no_end no_line = inr (
         length bytes - length read.rest,
         Inside (record {
@@ -216,8 +232,10 @@ module _ (Step : Progress → Record → Progress → Type 0) (decided : IsDecid
         }),
       )
 
-      behind : (more : List ℕ) → read.rest ≡ ending ++ 10 ∷ more → ((keys : KeyMap) × Reads Step bytes keys) ⊎ ((place : ℕ) × Stops Step bytes place)
-      behind [] e = inl (read.progress.keys, inr (record { records = read.records; progress = read.progress; rest = read.rest; begins = read.begins; ends = inr e; made = refl }))
+      behind : (more : List ℕ) → read.rest ≡ ending ++ 10 ∷ more
+          → ((keys : KeyMap) × Reads Step bytes keys) ⊎ ((place : ℕ) × Stops Step bytes place)
+      behind [] e =
+          inl (read.progress.keys, inr (record { records = read.records; progress = read.progress; rest = read.rest; begins = read.begins; ends = inr e; made = refl }))
       behind (b ∷ more) e = inr (
         length bytes - length (b ∷ more),
         Behind (record {
@@ -230,8 +248,10 @@ module _ (Step : Progress → Record → Progress → Type 0) (decided : IsDecid
         }),
       )
 
-      at_end : (more : List ℕ) → read.rest ≡ ending ++ more → ((keys : KeyMap) × Reads Step bytes keys) ⊎ ((place : ℕ) × Stops Step bytes place)
-      at_end [] e = inl (read.progress.keys, inr (record { records = read.records; progress = read.progress; rest = read.rest; begins = read.begins; ends = inl (e ∙ append-nil ending); made = refl }))
+      at_end : (more : List ℕ) → read.rest ≡ ending ++ more
+          → ((keys : KeyMap) × Reads Step bytes keys) ⊎ ((place : ℕ) × Stops Step bytes place)
+      at_end [] e =
+          inl (read.progress.keys, inr (record { records = read.records; progress = read.progress; rest = read.rest; begins = read.begins; ends = inl (e ∙ append-nil ending); made = refl }))
       at_end (b ∷ more) e = elim (equal-told b 10) as (λ _. ((keys : KeyMap) × Reads Step bytes keys) ⊎ ((place : ℕ) × Stops Step bytes place)) [
         | inl feed ↦ behind more (e ∙ ap (λ c. ending ++ c ∷ more) feed)
         | inr other ↦ inside
@@ -240,7 +260,8 @@ module _ (Step : Progress → Record → Progress → Type 0) (decided : IsDecid
       ]
 
   -- bytes read as a map or stop somewhere
-  pub Reads-or_else : (bytes : List ℕ) → ((keys : KeyMap) × Reads Step bytes keys) ⊎ ((place : ℕ) × Stops Step bytes place)
+  pub Reads-or_else : (bytes : List ℕ)
+      → ((keys : KeyMap) × Reads Step bytes keys) ⊎ ((place : ℕ) × Stops Step bytes place)
   Reads-or_else [] = inl (no_keys, inl (refl, refl))
   Reads-or_else (b ∷ bytes) = elim (front-told header (b ∷ bytes)) as (λ _. ((keys : KeyMap) × Reads Step (b ∷ bytes) keys) ⊎ ((place : ℕ) × Stops Step (b ∷ bytes) place)) [
     | inl first ↦ ended (b ∷ bytes) (read_on (b ∷ bytes) (suc (length first.0)) [] start first.0 (omega arith) (Begins-start Step (b ∷ bytes) first.0 first.1))

@@ -10,7 +10,8 @@ use Rattle.model_dump.specs.Adds.{Progress, start}
 -- records that have a reading one after the other lead from one progress to another
 abbrev pub Leads : (Progress → Record → Progress → Type 0) → Progress → List Record → Progress → Type 0
 Leads Step before [] after = before ≡ after
-Leads Step before (r ∷ records) after = (middle : Progress) × IsSized r × Step before r middle × Leads Step middle records after
+Leads Step before (r ∷ records) after =
+    (middle : Progress) × IsSized r × Step before r middle × Leads Step middle records after
 
 -- the bytes begin with the header and these records, which have a reading; the rest follows
 pub record Begins (Step : Progress → Record → Progress → Type 0) (bytes : List ℕ) (records : List Record) (progress : Progress) (rest : List ℕ) : Type 0 where
@@ -32,7 +33,8 @@ Reads Step bytes keys = ((bytes ≡ []) × (keys ≡ no_keys)) ⊎ IsDump Step b
 
 -- nothing that has a reading stands at the front: neither a record nor the ending
 pub record HasNoNext (Step : Progress → Record → Progress → Type 0) (progress : Progress) (rest : List ℕ) : Type 0 where
-  pub no_record : (r : Record) (after : Progress) (more : List ℕ) → IsSized r → Step progress r after → rest ≢ spelled_record r ++ more
+  pub no_record : (r : Record) (after : Progress) (more : List ℕ) → IsSized r → Step progress r after
+      → rest ≢ spelled_record r ++ more
   pub no_end : rest ≢ ending
   pub no_end_line : (more : List ℕ) → rest ≢ ending ++ 10 ∷ more
 

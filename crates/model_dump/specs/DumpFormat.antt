@@ -7,4 +7,11 @@ use Rattle.model_dump.specs.Text.{text}
 
 -- a dump holds every key
 abbrev pub dump : Format
-dump = record { Reads = Reads Adds; IsBadAt = IsBadAt Adds; text = text; Holds = λ keys name entry. Unit {0}; is_keywise = true }
+dump =
+    record {
+      Reads = Reads Adds;
+      IsBadAt = IsBadAt Adds;
+      text = text;
+      Holds = λ keys name entry. Unit {0};
+      is_keywise = true;
+    }

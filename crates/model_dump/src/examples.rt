@@ -31,8 +31,10 @@ pub fn faults_stop_at_their_lines()
 /// stand in order, whichever came first.
 pub fn small_maps_have_their_texts()
     ensures no_keys { text no_keys ≡ codes "kdbOpen 2\n$end\n" }
-    ensures one_key { text (map.insert no_keys (record { namespace = Cascading; parts = codes "sw" ∷ codes "a" ∷ [] }) (plain_entry (codes "1"))) ≡ codes "kdbOpen 2\n$key string 4 1\nsw/a\n1\n$end\n" }
-    ensures metadata { text (map.insert (map.insert no_keys (record { namespace = Cascading; parts = codes "b" ∷ [] }) (with_meta (with_meta (plain_entry (codes "2")) (codes "type") (codes "string")) (codes "order") (codes "#0"))) (record { namespace = Cascading; parts = [] }) (plain_entry [])) ≡ codes "kdbOpen 2\n$key string 0 0\n\n\n$key string 1 1\nb\n2\n$meta 5 2\norder\n#0\n$meta 4 6\ntype\nstring\n$end\n" }
+    ensures one_key { text (map.insert no_keys (record { namespace = Cascading; parts = codes "sw" ∷ codes "a" ∷ [] }) (plain_entry (codes "1")))
+        ≡ codes "kdbOpen 2\n$key string 4 1\nsw/a\n1\n$end\n" }
+    ensures metadata { text (map.insert (map.insert no_keys (record { namespace = Cascading; parts = codes "b" ∷ [] }) (with_meta (with_meta (plain_entry (codes "2")) (codes "type") (codes "string")) (codes "order") (codes "#0"))) (record { namespace = Cascading; parts = [] }) (plain_entry []))
+        ≡ codes "kdbOpen 2\n$key string 0 0\n\n\n$key string 1 1\nb\n2\n$meta 5 2\norder\n#0\n$meta 4 6\ntype\nstring\n$end\n" }
 {}
 
 /// Reading stops at a second key of one name, at metadata before the first key and under a name that is taken, and at

@@ -47,5 +47,6 @@ pub fn bytes_read_or_stop()
 
 /// A record has a reading behind the records before it, or it has none.
 pub fn a_record_adds_or_does_not()
-    ensures { (before : Progress) (r : Record) → ((after : Progress) × Adds before r after) ⊎ ((after : Progress) → Adds before r after → ⊥) }
+    ensures { (before : Progress) (r : Record)
+        → ((after : Progress) × Adds before r after) ⊎ ((after : Progress) → Adds before r after → ⊥) }
 {}

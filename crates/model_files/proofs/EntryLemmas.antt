@@ -41,15 +41,18 @@ pub length-over : {A B : Type 0} (f : A → B) (xs : List A) → length (over f 
 length-over f [] = refl
 length-over f (x ∷ xs) = ap suc (length-over f xs)
 
-all_files : (es : List (List ℕ × List ℕ)) → AllByRecursion (λ e. IsEntryFile (as_file e)) es → AllByRecursion IsEntryFile (over as_file es)
+all_files : (es : List (List ℕ × List ℕ)) → AllByRecursion (λ e. IsEntryFile (as_file e)) es
+    → AllByRecursion IsEntryFile (over as_file es)
 all_files [] all = tt
 all_files (e ∷ es) all = (all.0, all_files es all.1)
 
-names_behind : (name : List ℕ) (es : List (List ℕ × List ℕ)) → T (below_all text_cmp name es) → AllByRecursion (λ other. text_cmp name other ≡ Less) (names_of (over as_file es))
+names_behind : (name : List ℕ) (es : List (List ℕ × List ℕ)) → T (below_all text_cmp name es)
+    → AllByRecursion (λ other. text_cmp name other ≡ Less) (names_of (over as_file es))
 names_behind name [] h = tt
 names_behind name (e ∷ es) h = (less _ (first _ _ h), names_behind name es (second _ _ h))
 
-names_ascend : (es : List (List ℕ × List ℕ)) → T (is_sorted text_cmp es) → IsStrictlySortedBy text_cmp (names_of (over as_file es))
+names_ascend : (es : List (List ℕ × List ℕ)) → T (is_sorted text_cmp es)
+    → IsStrictlySortedBy text_cmp (names_of (over as_file es))
 unfolding IsStrictlySortedBy
 names_ascend [] h = tt
 names_ascend (e ∷ es) h = (names_behind e.0 es (first _ _ h), names_ascend es (second _ _ h))
@@ -72,20 +75,43 @@ module _ (formats : Formats) (store : Store) (keys : KeyMap) where
     pub file_is : mount.file ≡ file
     pub is : text_of formats store keys number mount ≡ bytes
 
-  pub texts_are : (mounts : List ℕ) (file bytes : List ℕ) → map.get (texts_at formats store keys mounts) file ≡ Some bytes → IsTextOf mounts file bytes
-  texts_are [] file bytes e = let none : map.get (map.empty {X = List ℕ} {R = text_cmp}) file ≡ None = map.get-empty text_cmp file in absurd cc
+  pub texts_are : (mounts : List ℕ) (file bytes : List ℕ)
+      → map.get (texts_at formats store keys mounts) file ≡ Some bytes → IsTextOf mounts file bytes
+  texts_are [] file bytes e =
+      let none : map.get (map.empty {X = List ℕ} {R = text_cmp}) file ≡ None = map.get-empty text_cmp file in absurd cc
   texts_are (n ∷ mounts) file bytes e = by (slice_get store.mounts n) refl (texts_are mounts file bytes) e
     where
       more : IsTextOf mounts file bytes → IsTextOf (n ∷ mounts) file bytes
-      more old = record { number = old.number; mount = old.mount; among = among-rest n old.number mounts old.among; there = old.there; file_is = old.file_is; is = old.is }
+      more old =
+          record {
+            number = old.number;
+            mount = old.mount;
+            among = among-rest n old.number mounts old.among;
+            there = old.there;
+            file_is = old.file_is;
+            is = old.is;
+          }
 
-      cases : (other : Mount) → slice_get store.mounts n ≡ Some other → (map.get (texts_at formats store keys mounts) file ≡ Some bytes → IsTextOf mounts file bytes)
-          → (map.get (texts_at formats store keys mounts) file ≡ Some bytes) ⊎ ((file ≡ other.file) × (text_of formats store keys n other ≡ bytes)) → IsTextOf (n ∷ mounts) file bytes
+      cases : (other : Mount) → slice_get store.mounts n ≡ Some other
+          → (map.get (texts_at formats store keys mounts) file ≡ Some bytes → IsTextOf mounts file bytes)
+          → (map.get (texts_at formats store keys mounts) file ≡ Some bytes)
+          ⊎ ((file ≡ other.file) × (text_of formats store keys n other ≡ bytes))
+          → IsTextOf (n ∷ mounts) file bytes
       cases other is rest (inl old) = more (rest old)
-      cases other is rest (inr new) = record { number = n; mount = other; among = among-first n mounts; there = is; file_is = sym new.0; is = new.1 }
+      cases other is rest (inr new) =
+          record {
+            number = n;
+            mount = other;
+            among = among-first n mounts;
+            there = is;
+            file_is = sym new.0;
+            is = new.1;
+          }
 
-      by : (o : Option Mount) → slice_get store.mounts n ≡ o → (map.get (texts_at formats store keys mounts) file ≡ Some bytes → IsTextOf mounts file bytes)
-          → map.get (with_text formats store keys n o (texts_at formats store keys mounts)) file ≡ Some bytes → IsTextOf (n ∷ mounts) file bytes
+      by : (o : Option Mount) → slice_get store.mounts n ≡ o
+          → (map.get (texts_at formats store keys mounts) file ≡ Some bytes → IsTextOf mounts file bytes)
+          → map.get (with_text formats store keys n o (texts_at formats store keys mounts)) file ≡ Some bytes
+          → IsTextOf (n ∷ mounts) file bytes
       by None is rest h = more (rest h)
       by (Some other) is rest h =
           cases other is rest (get-cases text_cmp-total text_cmp-IsAntisymmetric (texts_at formats store keys mounts) other.file (text_of formats store keys n other) file bytes h)
@@ -94,14 +120,17 @@ module _ (formats : Formats) (store : Store) (keys : KeyMap) where
   few_texts [] = let none = map.len-empty text_cmp (List ℕ) in omega (arith, none)
   few_texts (n ∷ mounts) = by (slice_get store.mounts n) (few_texts mounts)
     where
-      by : (o : Option Mount) → map.len (texts_at formats store keys mounts) ≤ length mounts → map.len (with_text formats store keys n o (texts_at formats store keys mounts)) ≤ suc (length mounts)
+      by : (o : Option Mount) → map.len (texts_at formats store keys mounts) ≤ length mounts
+          → map.len (with_text formats store keys n o (texts_at formats store keys mounts)) ≤ suc (length mounts)
       by None rest = omega (arith, rest)
       by (Some other) rest =
           let texts = texts_at formats store keys mounts in
           subst (λ l. l ≤ suc (length mounts)) (sym (map.len-insert text_cmp-total texts other.file (text_of formats store keys n other)))
           (elim (map.contains_key texts other.file) as (λ b. cond b (map.len texts) (map.len texts + 1) ≤ suc (length mounts)) [ true ↦ omega (arith, rest) | false ↦ omega (arith, rest) ])
 
-  short_text : (m : ℕ) (mount : Mount) → slice_get store.mounts m ≡ Some mount → too_long formats store (λ n. owned_by (points_of store) n keys) m ≡ None → length (text_of formats store keys m mount) ≤ longest_file
+  short_text : (m : ℕ) (mount : Mount) → slice_get store.mounts m ≡ Some mount
+      → too_long formats store (λ n. owned_by (points_of store) n keys) m ≡ None
+      → length (text_of formats store keys m mount) ≤ longest_file
   short_text m mount there none =
       not_long m (text_of formats store keys m mount)
       (sym (ap (option_and_then (λ (one : Mount). long_text m (formats.text one.kind (contents store m one (owned_by (points_of store) m keys))))) there) ∙ none)
@@ -114,11 +143,14 @@ module _ (formats : Formats) (store : Store) (have : HaveFiles store.mounts) (be
       let owner : owner_of (points_of store) change.name ≡ Some m = is_number (owner_of (points_of store) change.name) m change.owned in
       subst (λ n. m < n) (length-over (λ (mount : Mount). mount.at) store.mounts) (position-Some (is_longest (points_of store) change.name) (points_of store) m change.name owner).0
 
-  all_mounts : (ms : List ℕ) → AllByRecursion (HasChange (points_of store) commit.changes) ms → AllByRecursion (λ m. m < length store.mounts) ms
+  all_mounts : (ms : List ℕ) → AllByRecursion (HasChange (points_of store) commit.changes) ms
+      → AllByRecursion (λ m. m < length store.mounts) ms
   all_mounts [] all = tt
   all_mounts (m ∷ ms) all = (is_mount m all.0, all_mounts ms all.1)
 
-  entry_file : (file bytes : List ℕ) → map.get (texts_at formats store (changed_by commit.changes before) commit.touched) file ≡ Some bytes → IsEntryFile (record { file = file; bytes = bytes })
+  entry_file : (file bytes : List ℕ)
+      → map.get (texts_at formats store (changed_by commit.changes before) commit.touched) file ≡ Some bytes
+      → IsEntryFile (record { file = file; bytes = bytes })
   entry_file file bytes e =
       let text = texts_are formats store (changed_by commit.changes before) commit.touched file bytes e in
       let fits = from_all (Fits formats store (λ m. owned_by (points_of store) m (changed_by commit.changes before))) commit.touched text.number legal.fits text.among in
@@ -126,7 +158,8 @@ module _ (formats : Formats) (store : Store) (have : HaveFiles store.mounts) (be
       subst (λ (f : FileText). IsEntryFile f) (λ i. record { file = text.file_is i; bytes = text.is i })
       (record { is_name = have.named text.number text.mount text.there; not_journal = have.free text.number text.mount text.there; not_long = short })
 
-  some_text : (ms : List ℕ) → ms ≢ [] → AllByRecursion (λ m. m < length store.mounts) ms → 1 ≤ length (map.entries (texts_at formats store (changed_by commit.changes before) ms))
+  some_text : (ms : List ℕ) → ms ≢ [] → AllByRecursion (λ m. m < length store.mounts) ms
+      → 1 ≤ length (map.entries (texts_at formats store (changed_by commit.changes before) ms))
   some_text [] some all = absurd (some refl)
   some_text (m ∷ ms) some all =
       let found = there_is store.mounts m all.0 in

@@ -50,7 +50,8 @@ either_way : (b : Bool) (o : Option Unit) → cond b o o ≡ o
 either_way true o = refl
 either_way false o = refl
 
-has_name : (mounts : List Mount) (i : ℕ) (mount : Mount) → slice_get mounts i ≡ Some mount → map.get (file_names mounts) mount.file ≡ Some tt
+has_name : (mounts : List Mount) (i : ℕ) (mount : Mount) → slice_get mounts i ≡ Some mount
+    → map.get (file_names mounts) mount.file ≡ Some tt
 has_name [] zero mount e = absurd cc
 has_name [] (suc i) mount e = absurd cc
 has_name (one ∷ mounts) zero mount e =
@@ -70,7 +71,8 @@ few_names (mount ∷ mounts) =
 
 -- ---- the names are a header
 
-keys_behind : (name : List ℕ) (es : List (List ℕ × Unit)) → T (below_all text_cmp name es) → AllByRecursion (λ other. text_cmp name other ≡ Less) (over (λ e. e.0) es)
+keys_behind : (name : List ℕ) (es : List (List ℕ × Unit)) → T (below_all text_cmp name es)
+    → AllByRecursion (λ other. text_cmp name other ≡ Less) (over (λ e. e.0) es)
 keys_behind name [] h = tt
 keys_behind name (e ∷ es) h = (less _ (first _ _ h), keys_behind name es (second _ _ h))
 
@@ -120,19 +122,23 @@ module _ (mounts : List Mount) (have : HaveFiles mounts) where
 
 listed_by : (names : List (List ℕ)) (name : List ℕ) → is_listed names name ≡ list_any (eq_by_cmp text_cmp name) names
 listed_by [] name = refl
-listed_by (one ∷ names) name = ap₂ ◌||◌ (one_answer (bytes_eq one name) (eq_by_cmp text_cmp name one) (bytes_eq-Decides one name) (text_tied one name)) (listed_by names name)
+listed_by (one ∷ names) name =
+    ap₂ ◌||◌ (one_answer (bytes_eq one name) (eq_by_cmp text_cmp name one) (bytes_eq-Decides one name) (text_tied one name)) (listed_by names name)
 
-all_files : (names : List (List ℕ)) (es : List (List ℕ × List ℕ)) → AllByRecursion (λ e. is_listed names e.0 ≡ true) es → are_listed names (over as_file es) ≡ true
+all_files : (names : List (List ℕ)) (es : List (List ℕ × List ℕ)) → AllByRecursion (λ e. is_listed names e.0 ≡ true) es
+    → are_listed names (over as_file es) ≡ true
 all_files names [] all = refl
 all_files names (e ∷ es) all = ap₂ ◌&&◌ all.0 (all_files names es all.1)
 
 -- the file of a mount is among the names
-mount_listed : (mounts : List Mount) (i : ℕ) (mount : Mount) → slice_get mounts i ≡ Some mount → is_listed (map.keys (file_names mounts)) mount.file ≡ true
+mount_listed : (mounts : List Mount) (i : ℕ) (mount : Mount) → slice_get mounts i ≡ Some mount
+    → is_listed (map.keys (file_names mounts)) mount.file ≡ true
 mount_listed mounts i mount there =
     listed_by (map.keys (file_names mounts)) mount.file ∙ sym (map.contains_key-keys (file_names mounts) mount.file)
     ∙ ap (λ o. is_some o) (has_name mounts i mount there)
 
-pub entry_listed : (formats : Formats) (store : Store) (before : KeyMap) (commit : Commit) → are_listed (table_files store) (entry_of formats store before commit) ≡ true
+pub entry_listed : (formats : Formats) (store : Store) (before : KeyMap) (commit : Commit)
+    → are_listed (table_files store) (entry_of formats store before commit) ≡ true
 entry_listed formats store before commit =
     let keys = changed_by commit.changes before in
     let texts = texts_at formats store keys commit.touched in

@@ -17,14 +17,16 @@ use Rattle.set_split.specs.Parts.{owned_by}
 
 -- each mount has a file of its own
 abbrev pub HaveOwnFiles : List Mount → Type 0
-HaveOwnFiles mounts = (i j : ℕ) (one other : Mount) → slice_get mounts i ≡ Some one → slice_get mounts j ≡ Some other → one.file ≡ other.file → i ≡ j
+HaveOwnFiles mounts =
+    (i j : ℕ) (one other : Mount) → slice_get mounts i ≡ Some one → slice_get mounts j ≡ Some other → one.file ≡ other.file → i ≡ j
 
 -- mounts whose files an entry of a journal can hold: few enough, each with a file of its own, none of which is the
 -- journal's
 pub record HaveFiles (mounts : List Mount) : Type 0 where
   pub own : HaveOwnFiles mounts
   pub named : (i : ℕ) (mount : Mount) → slice_get mounts i ≡ Some mount → IsFileName mount.file
-  pub free : (i : ℕ) (mount : Mount) → slice_get mounts i ≡ Some mount → starts_with nat_eq mount.file (codes "journal") ≡ false
+  pub free : (i : ℕ) (mount : Mount) → slice_get mounts i ≡ Some mount
+      → starts_with nat_eq mount.file (codes "journal") ≡ false
   pub few : length mounts ≤ most_mounts
 
 -- the mount whose file has a name
@@ -33,7 +35,8 @@ mount_with mounts file = position_from (λ mount. bytes_eq mount.file file) 0 mo
 
 -- what the file of a mount holds of some keys: the text of those that the mount owns, joined with its shadow
 abbrev pub text_of : Formats → Store → KeyMap → ℕ → Mount → List ℕ
-text_of formats store keys m mount = formats.text mount.kind (contents store m mount (owned_by (points_of store) m keys))
+text_of formats store keys m mount =
+    formats.text mount.kind (contents store m mount (owned_by (points_of store) m keys))
 
 -- some commit touches a mount
 abbrev pub is_touched : ℕ → List Commit → Bool
@@ -41,11 +44,13 @@ is_touched m history = list_any (touches m) history
 
 -- what a history stores in the file of a mount: nothing where no commit touches it
 abbrev pub stored : Formats → Store → KeyMap → List Commit → ℕ → Option (List ℕ)
-stored formats store start history m = if is_touched m history then option_map (text_of formats store (replay start history) m) (slice_get store.mounts m) else None
+stored formats store start history m =
+    if is_touched m history then option_map (text_of formats store (replay start history) m) (slice_get store.mounts m) else None
 
 -- files after commits on a map: what is stored in the file of a mount, and every other file as it was
 abbrev pub files_from : Formats → Store → KeyMap → Image → List Commit → Image
-files_from formats store start files history file = unwrap_or (option_and_then (stored formats store start history) (mount_with store.mounts file)) (files file)
+files_from formats store start files history file =
+    unwrap_or (option_and_then (stored formats store start history) (mount_with store.mounts file)) (files file)
 
 -- files after a history
 abbrev pub files_after : Formats → Store → Image → List Commit → Image

@@ -23,7 +23,8 @@ with_text formats store keys m (Some mount) texts = map.insert texts mount.file 
 -- the texts of some mounts
 abbrev pub texts_at : Formats → Store → KeyMap → List ℕ → Texts
 texts_at formats store keys [] = map.empty
-texts_at formats store keys (m ∷ mounts) = with_text formats store keys m (slice_get store.mounts m) (texts_at formats store keys mounts)
+texts_at formats store keys (m ∷ mounts) =
+    with_text formats store keys m (slice_get store.mounts m) (texts_at formats store keys mounts)
 
 -- a text as a file of an entry
 abbrev pub as_file : List ℕ × List ℕ → FileText
@@ -35,12 +36,14 @@ as_entry texts = over as_file (map.entries texts)
 
 -- the entry of a commit on a map: the texts of the touched mounts, of the map after it
 abbrev pub entry_of : Formats → Store → KeyMap → Commit → List FileText
-entry_of formats store before commit = as_entry (texts_at formats store (changed_by commit.changes before) commit.touched)
+entry_of formats store before commit =
+    as_entry (texts_at formats store (changed_by commit.changes before) commit.touched)
 
 -- the entries of commits on a map, one after the other
 abbrev pub entries_from : Formats → Store → KeyMap → List Commit → List (List FileText)
 entries_from formats store start [] = []
-entries_from formats store start (commit ∷ commits) = entry_of formats store start commit ∷ entries_from formats store (changed_by commit.changes start) commits
+entries_from formats store start (commit ∷ commits) =
+    entry_of formats store start commit ∷ entries_from formats store (changed_by commit.changes start) commits
 
 -- the entries of a history
 abbrev pub entries_of : Formats → Store → List Commit → List (List FileText)

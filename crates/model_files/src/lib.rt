@@ -23,30 +23,40 @@ use storage_api::Formats;
 /// Where each mount has a file of its own, the files after a legal history are those at its beginning with the entry of
 /// each of its commits, one after the other.
 pub fn the_files_of_a_history_are_those_of_its_entries<F: Formats>(_formats: &F)
-    ensures { (store : Store) (files : Image) (history : List Commit) → HaveOwnFiles store.mounts → IsLegal (formats_of F.Formats) store history
-        → files_after (formats_of F.Formats) store files history ≡ with_entries files (entries_of (formats_of F.Formats) store history) }
+    ensures { (store : Store) (files : Image) (history : List Commit) → HaveOwnFiles store.mounts
+        → IsLegal (formats_of F.Formats) store history
+        → files_after (formats_of F.Formats) store files history
+        ≡ with_entries files (entries_of (formats_of F.Formats) store history) }
 {}
 
 /// The entries of a prefix of a history are that many of its entries, so that a prefix of the one is a prefix of the
 /// other.
 pub fn the_entries_of_a_prefix_are_the_first_ones<F: Formats>(_formats: &F)
-    ensures count { (store : Store) (history : List Commit) → length (entries_of (formats_of F.Formats) store history) ≡ length history }
-    ensures first { (store : Store) (history : List Commit) (number : ℕ) → entries_of (formats_of F.Formats) store (take number history) ≡ take number (entries_of (formats_of F.Formats) store history) }
-    ensures files { (store : Store) (files : Image) (history : List Commit) (number : ℕ) → HaveOwnFiles store.mounts → IsLegal (formats_of F.Formats) store history
-        → files_after (formats_of F.Formats) store files (take number history) ≡ with_entries files (take number (entries_of (formats_of F.Formats) store history)) }
+    ensures count { (store : Store) (history : List Commit)
+        → length (entries_of (formats_of F.Formats) store history) ≡ length history }
+    ensures first { (store : Store) (history : List Commit) (number : ℕ)
+        → entries_of (formats_of F.Formats) store (take number history)
+        ≡ take number (entries_of (formats_of F.Formats) store history) }
+    ensures files { (store : Store) (files : Image) (history : List Commit) (number : ℕ) → HaveOwnFiles store.mounts
+        → IsLegal (formats_of F.Formats) store history
+        → files_after (formats_of F.Formats) store files (take number history)
+        ≡ with_entries files (take number (entries_of (formats_of F.Formats) store history)) }
 {}
 
 /// An image that a run with the entries of a legal history may have left stands for the files after one prefix of that
 /// history, and for these with one entry that was begun on just that prefix.
 pub fn a_crash_leaves_a_prefix_of_the_history<F: Formats>(_formats: &F)
-    ensures { (store : Store) (files : Image) (history : List Commit) (begun : List Begun) (image : Image) → HaveOwnFiles store.mounts → IsLegal (formats_of F.Formats) store history
+    ensures { (store : Store) (files : Image) (history : List Commit) (begun : List Begun) (image : Image)
+        → HaveOwnFiles store.mounts → IsLegal (formats_of F.Formats) store history
         → IsReached files (entries_of (formats_of F.Formats) store history) begun image
-        → (number : ℕ) × (doubt : Option (List Item)) × (number ≤ length history) × (IsBegun begun number doubt) × HasOnly (IsEither (files_after (formats_of F.Formats) store files (take number history)) doubt) image }
+        → (number : ℕ) × (doubt : Option (List Item)) × (number ≤ length history) × (IsBegun begun number doubt)
+        × HasOnly (IsEither (files_after (formats_of F.Formats) store files (take number history)) doubt) image }
 {}
 
 /// The texts of a legal commit are an entry that a journal can hold, where the mounts have files for it.
 pub fn a_legal_commit_is_an_entry<F: Formats>(_formats: &F)
-    ensures { (store : Store) (before : KeyMap) (commit : Commit) → HaveFiles store.mounts → IsLegalCommit (formats_of F.Formats) store before commit
+    ensures { (store : Store) (before : KeyMap) (commit : Commit) → HaveFiles store.mounts
+        → IsLegalCommit (formats_of F.Formats) store before commit
         → IsEntry (entry_of (formats_of F.Formats) store before commit) }
 {}
 
@@ -58,5 +68,6 @@ pub fn the_files_of_a_table_are_a_header()
 
 /// The entry of a commit names files of the table alone.
 pub fn the_entry_of_a_commit_names_files_of_the_table<F: Formats>(_formats: &F)
-    ensures { (store : Store) (before : KeyMap) (commit : Commit) → are_listed (table_files store) (entry_of (formats_of F.Formats) store before commit) ≡ true }
+    ensures { (store : Store) (before : KeyMap) (commit : Commit)
+        → are_listed (table_files store) (entry_of (formats_of F.Formats) store before commit) ≡ true }
 {}

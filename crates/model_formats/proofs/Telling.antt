@@ -26,7 +26,8 @@ told-along to from (inl p) = inl (to p)
 told-along to from (inr fails) = inr (λ q. fails (from q))
 
 pub le-told : (m n : ℕ) → IsTold (m ≤ n)
-le-told m n = elim (leb_tells m n) as (λ _. IsTold (m ≤ n)) [ inl le ↦ inl le.1 | inr greater ↦ inr (λ le. let less = greater.1 in omega arith) ]
+le-told m n =
+    elim (leb_tells m n) as (λ _. IsTold (m ≤ n)) [ inl le ↦ inl le.1 | inr greater ↦ inr (λ le. let less = greater.1 in omega arith) ]
 
 pub equal-told : (m n : ℕ) → IsTold (m ≡ n)
 equal-told m n = elim (eqb_tells m n) as (λ _. IsTold (m ≡ n)) [ inl same ↦ inl same.1 | inr other ↦ inr other.1 ]
@@ -65,7 +66,8 @@ spells-told text = elim (utf8-told text) as (λ _. IsTold ((name : Name) × Spel
   where
     by : IsUtf8 text → (o : Option Refusal) → refusal_of text ≡ o → IsTold ((name : Name) × Spells text name)
     by utf8 None e = inl (Spells-from_no_refusal text utf8 e)
-    by utf8 (Some refusal) e = inr (λ found. none_is_no_some refusal (sym (sym e ∙ refusal_of-spelled text found.0 found.1)))
+    by utf8 (Some refusal) e =
+        inr (λ found. none_is_no_some refusal (sym (sym e ∙ refusal_of-spelled text found.0 found.1)))
 
 -- an option is none, or there is something in it
 pub option-told : {A : Type 0} (o : Option A) → (o ≡ None) ⊎ ((x : A) × (o ≡ Some x))

@@ -29,14 +29,20 @@ pub record IsLawful (format : Format) : Type 0 where
   pub text_reads : (keys : KeyMap) → IsLimited keys → IsStorable format keys → format.Reads (format.text keys) keys
   -- bytes read as at most one map, which can be stored and is within the limits of a file; no bytes read as the empty
   -- map
-  pub one_reading : (bytes : List ℕ) (keys other : KeyMap) → format.Reads bytes keys → format.Reads bytes other → keys ≡ other
+  pub one_reading : (bytes : List ℕ) (keys other : KeyMap) → format.Reads bytes keys → format.Reads bytes other
+      → keys ≡ other
   pub read_is_storable : (bytes : List ℕ) (keys : KeyMap) → format.Reads bytes keys → IsStorable format keys
   pub read_is_limited : (bytes : List ℕ) (keys : KeyMap) → format.Reads bytes keys → IsLimited keys
   pub empty_reads : format.Reads [] no_keys
   -- bytes read as a map or are bad at a line, never both, and at one line alone
-  pub reads_or_bad : (bytes : List ℕ) → ((keys : KeyMap) × format.Reads bytes keys) ⊎ ((line : ℕ) × format.IsBadAt bytes line)
-  pub read_is_not_bad : (bytes : List ℕ) (keys : KeyMap) (line : ℕ) → format.Reads bytes keys → format.IsBadAt bytes line → ⊥
-  pub one_line : (bytes : List ℕ) (line other : ℕ) → format.IsBadAt bytes line → format.IsBadAt bytes other → line ≡ other
+  pub reads_or_bad : (bytes : List ℕ)
+      → ((keys : KeyMap) × format.Reads bytes keys) ⊎ ((line : ℕ) × format.IsBadAt bytes line)
+  pub read_is_not_bad : (bytes : List ℕ) (keys : KeyMap) (line : ℕ) → format.Reads bytes keys
+      → format.IsBadAt bytes line → ⊥
+  pub one_line : (bytes : List ℕ) (line other : ℕ) → format.IsBadAt bytes line → format.IsBadAt bytes other
+      → line ≡ other
   -- a key can be held or it can't; and where the others don't matter, it can beside any others
-  pub holds_or_not : (keys : KeyMap) (name : Name) (entry : Entry) → format.Holds keys name entry ⊎ (format.Holds keys name entry → ⊥)
-  pub held_alone : (keys other : KeyMap) (name : Name) (entry : Entry) → format.is_keywise ≡ true → format.Holds keys name entry → format.Holds other name entry
+  pub holds_or_not : (keys : KeyMap) (name : Name) (entry : Entry)
+      → format.Holds keys name entry ⊎ (format.Holds keys name entry → ⊥)
+  pub held_alone : (keys other : KeyMap) (name : Name) (entry : Entry) → format.is_keywise ≡ true
+      → format.Holds keys name entry → format.Holds other name entry

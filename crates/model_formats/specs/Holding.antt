@@ -21,5 +21,7 @@ pub record LacksFirst (Has : Name → Entry → Type 0) (keys : KeyMap) (name : 
 
 -- a map has a property exactly where each key alone has it
 pub record IsKeywise (Has : KeyMap → Type 0) (keys : KeyMap) : Type 0 where
-  pub each : Has keys → (name : Name) (entry : Entry) → map.get keys name ≡ Some entry → Has (map.insert no_keys name entry)
-  pub all : ((name : Name) (entry : Entry) → map.get keys name ≡ Some entry → Has (map.insert no_keys name entry)) → Has keys
+  pub each : Has keys → (name : Name) (entry : Entry) → map.get keys name ≡ Some entry
+      → Has (map.insert no_keys name entry)
+  pub all : ((name : Name) (entry : Entry) → map.get keys name ≡ Some entry → Has (map.insert no_keys name entry))
+      → Has keys

@@ -12,9 +12,13 @@ ghost use Rattle.model_formats.specs.Holding.{EachHas, LacksFirst};
 
 /// Every key of a map is without a value, or one is the first that has one; never both, and one key alone.
 pub fn keys_have_a_property_or_one_lacks_it_first()
-    ensures total { (keys : KeyMap) → EachHas (λ _ entry. entry.value ≡ []) keys ⊎ ((name : Name) × LacksFirst (λ _ entry. entry.value ≡ []) keys name) }
-    ensures not_both { (keys : KeyMap) (name : Name) → EachHas (λ _ entry. entry.value ≡ []) keys → LacksFirst (λ _ entry. entry.value ≡ []) keys name → ⊥ }
-    ensures one { (keys : KeyMap) (name other : Name) → LacksFirst (λ _ entry. entry.value ≡ []) keys name → LacksFirst (λ _ entry. entry.value ≡ []) keys other → name ≡ other }
+    ensures total { (keys : KeyMap)
+        → EachHas (λ _ entry. entry.value ≡ []) keys
+        ⊎ ((name : Name) × LacksFirst (λ _ entry. entry.value ≡ []) keys name) }
+    ensures not_both { (keys : KeyMap) (name : Name) → EachHas (λ _ entry. entry.value ≡ []) keys
+        → LacksFirst (λ _ entry. entry.value ≡ []) keys name → ⊥ }
+    ensures one { (keys : KeyMap) (name other : Name) → LacksFirst (λ _ entry. entry.value ≡ []) keys name
+        → LacksFirst (λ _ entry. entry.value ≡ []) keys other → name ≡ other }
 {}
 
 /// Of the keys `/a`, without a value, and `/b` and `/c`, with one, `/b` is the first that has one.

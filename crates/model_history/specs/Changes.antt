@@ -29,7 +29,8 @@ named_change before wanted name = option_map (λ change. (name, change)) (change
 
 -- the changes that lead from one map to another
 abbrev pub difference : KeyMap → KeyMap → Changes
-difference before wanted = map.from_entries (filter_map (named_change before wanted) (map.keys before ++ map.keys wanted))
+difference before wanted =
+    map.from_entries (filter_map (named_change before wanted) (map.keys before ++ map.keys wanted))
 
 -- a map with one change made
 abbrev pub changed : KeyMap → Change → KeyMap

@@ -46,7 +46,8 @@ changes_beside name handle commit = not (is_by handle commit) && changes_name na
 
 -- the number of the first commit behind a front that another handle made and that changes a name
 abbrev pub first_change_after : List Commit → Name → ℕ → ℕ → Option ℕ
-first_change_after history name front handle = position_from (changes_beside name handle) (front + 1) (drop front history)
+first_change_after history name front handle =
+    position_from (changes_beside name handle) (front + 1) (drop front history)
 
 -- the commits of a handle
 abbrev pub commits_by : ℕ → List Commit → List Commit

@@ -32,10 +32,12 @@ no_less r e h = let clash : true ≡ false = sym (ap is_lt e) ∙ h in absurd cc
 
 -- so it isn't before it
 alias_not_before : (x y a : Part) → name_cmp (alias_name x y a) (host_name x y) ≡ Less → ⊥
-alias_not_before x y a e = no_less (name_cmp (alias_name x y a) (host_name x y)) e (at_or_below-not_before (host_name x y) (alias_name x y a) (alias_below x y a))
+alias_not_before x y a e =
+    no_less (name_cmp (alias_name x y a) (host_name x y)) e (at_or_below-not_before (host_name x y) (alias_name x y a) (alias_below x y a))
 
 -- and a host between them is the same host
-host_between : (x y a f h : Part) → name_cmp (host_name x y) (host_name f h) ≡ Less → name_cmp (host_name f h) (alias_name x y a) ≡ Less → (x ≡ f) × (y ≡ h)
+host_between : (x y a f h : Part) → name_cmp (host_name x y) (host_name f h) ≡ Less
+    → name_cmp (host_name f h) (alias_name x y a) ≡ Less → (x ≡ f) × (y ≡ h)
 host_between x y a f h above before =
     let behind : is_lt (name_cmp (host_name f h) (host_name x y)) ≡ false = ap is_lt (name_cmp_total.antisymm (host_name f h) (host_name x y) ∙ ap ordering_reverse above) in
     let under = at_or_below-between (host_name x y) (host_name f h) (alias_name x y a) (alias_below x y a) before behind in
@@ -61,7 +63,8 @@ module _ (whole : KeyMap) (front : List (Name × Entry)) (f h : Part) (host_entr
 
   host_before : name_cmp (host_name f h) (alias_name x y a) ≡ Less
   unfolding host alias
-  host_before = below (host_name f h) aliases (alias_name x y a, alias_entry) rest (sorted-behind front host (aliases ++ alias ∷ rest) sorted)
+  host_before =
+      below (host_name f h) aliases (alias_name x y a, alias_entry) rest (sorted-behind front host (aliases ++ alias ∷ rest) sorted)
 
   places : AllByRecursion (λ (key : Name × Entry). Place (host_name f h) (alias_name x y a) key.0) (front ++ host ∷ (aliases ++ alias ∷ rest))
   unfolding host alias
@@ -93,7 +96,9 @@ module _ (whole : KeyMap) (front : List (Name × Entry)) (f h : Part) (host_entr
       ]
 
 -- no alias stands first
-pub alias_not_first : (whole : KeyMap) (x y a : Part) (alias_entry : Entry) (rest : List (Name × Entry)) → finite.entries whole ≡ (alias_name x y a, alias_entry) ∷ rest → (entry : Entry) → finite.get whole (host_name x y) ≡ Some entry → ⊥
+pub alias_not_first : (whole : KeyMap) (x y a : Part) (alias_entry : Entry) (rest : List (Name × Entry))
+    → finite.entries whole ≡ (alias_name x y a, alias_entry) ∷ rest → (entry : Entry)
+    → finite.get whole (host_name x y) ≡ Some entry → ⊥
 alias_not_first whole x y a alias_entry rest cut entry found =
     let alias : Name × Entry = (alias_name x y a, alias_entry) in
     let P : Name × Entry → Type 0 = λ key. (length key.0.parts ≢ 2) ⊎ (name_cmp (alias_name x y a) key.0 ≡ Less) in

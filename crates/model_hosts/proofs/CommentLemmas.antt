@@ -34,13 +34,17 @@ not_tied Less h = refl
 not_tied Equal h = absurd (h refl)
 not_tied Greater h = refl
 
-names_apart : (i j : ℕ) → i ≤ last_index → j ≤ last_index → i ≢ j → eq_by_cmp text_cmp (comment_name i) (comment_name j) ≡ false
-names_apart i j p q apart = not_tied (text_cmp (comment_name i) (comment_name j)) (λ e. apart (comment_name-once i j p q (text_cmp-IsAntisymmetric (comment_name i) (comment_name j) e)))
+names_apart : (i j : ℕ) → i ≤ last_index → j ≤ last_index → i ≢ j
+    → eq_by_cmp text_cmp (comment_name i) (comment_name j) ≡ false
+names_apart i j p q apart =
+    not_tied (text_cmp (comment_name i) (comment_name j)) (λ e. apart (comment_name-once i j p q (text_cmp-IsAntisymmetric (comment_name i) (comment_name j) e)))
 
 -- a comment that is inserted leaves those of other indexes as they are
-get-other : (meta : Meta) (i j : ℕ) (text : List ℕ) → i ≤ last_index → j ≤ last_index → j ≢ i → finite.get (finite.insert meta (comment_name i) text) (comment_name j) ≡ finite.get meta (comment_name j)
+get-other : (meta : Meta) (i j : ℕ) (text : List ℕ) → i ≤ last_index → j ≤ last_index → j ≢ i
+    → finite.get (finite.insert meta (comment_name i) text) (comment_name j) ≡ finite.get meta (comment_name j)
 get-other meta i j text p q apart =
-    finite.get-insert nat_list_cmp_total meta (comment_name i) text (comment_name j) ∙ ap (λ t. cond t (Some text) (finite.get meta (comment_name j))) (names_apart j i q p apart)
+    finite.get-insert nat_list_cmp_total meta (comment_name i) text (comment_name j)
+    ∙ ap (λ t. cond t (Some text) (finite.get meta (comment_name j))) (names_apart j i q p apart)
 
 -- ---- texts that are there
 
@@ -49,41 +53,50 @@ abbrev HasFrom : ℕ → List (List ℕ) → Meta → Type 0
 HasFrom index [] meta = Unit {0}
 HasFrom index (text ∷ texts) meta = (finite.get meta (comment_name index) ≡ Some text) × HasFrom (index + 1) texts meta
 
-HasFrom-insert : (index : ℕ) (texts : List (List ℕ)) (meta : Meta) (i : ℕ) (text : List ℕ) → i < index → index + length texts ≤ last_index + 1 → HasFrom index texts meta → HasFrom index texts (finite.insert meta (comment_name i) text)
+HasFrom-insert : (index : ℕ) (texts : List (List ℕ)) (meta : Meta) (i : ℕ) (text : List ℕ) → i < index
+    → index + length texts ≤ last_index + 1 → HasFrom index texts meta
+    → HasFrom index texts (finite.insert meta (comment_name i) text)
 HasFrom-insert index [] meta i text below few has = tt
 HasFrom-insert index (t ∷ texts) meta i text below few has =
     let low : i ≤ last_index = omega arith in
     let high : index ≤ last_index = omega arith in
     (get-other meta i index text low high (λ (e : index ≡ i). absurd (omega arith)) ∙ has.0, HasFrom-insert (index + 1) texts meta i text (omega arith) (omega arith) has.1)
 
-HasFrom-comments : (index : ℕ) (texts : List (List ℕ)) → index + length texts ≤ last_index + 1 → HasFrom index texts (comments_from index texts)
+HasFrom-comments : (index : ℕ) (texts : List (List ℕ)) → index + length texts ≤ last_index + 1
+    → HasFrom index texts (comments_from index texts)
 HasFrom-comments index [] few = tt
 HasFrom-comments index (text ∷ texts) few = (
   get-insert_same nat_list_cmp_total (comments_from (index + 1) texts) (comment_name index) text,
   HasFrom-insert (index + 1) texts (comments_from (index + 1) texts) index text (omega arith) (omega arith) (HasFrom-comments (index + 1) texts (omega arith)),
 )
 
-HasFrom-at : (index : ℕ) (texts : List (List ℕ)) (meta : Meta) (i : ℕ) → HasFrom index texts meta → i < length texts → finite.get meta (comment_name (index + i)) ≡ slice_get texts i
+HasFrom-at : (index : ℕ) (texts : List (List ℕ)) (meta : Meta) (i : ℕ) → HasFrom index texts meta → i < length texts
+    → finite.get meta (comment_name (index + i)) ≡ slice_get texts i
 HasFrom-at index [] meta i has within = absurd (omega (arith, within))
-HasFrom-at index (text ∷ texts) meta zero has within = let here : index + 0 ≡ index = omega arith in ap (λ n. finite.get meta (comment_name n)) here ∙ has.0
+HasFrom-at index (text ∷ texts) meta zero has within =
+    let here : index + 0 ≡ index = omega arith in ap (λ n. finite.get meta (comment_name n)) here ∙ has.0
 HasFrom-at index (text ∷ texts) meta (suc i) has within =
     let moved : index + suc i ≡ index + 1 + i = omega arith in
     ap (λ n. finite.get meta (comment_name n)) moved ∙ HasFrom-at (index + 1) texts meta i has.1 (omega (arith, within))
 
 -- ---- indexes without a comment
 
-pub comments_from-none : (index : ℕ) (texts : List (List ℕ)) (i : ℕ) → i < index → index + length texts ≤ last_index + 1 → finite.get (comments_from index texts) (comment_name i) ≡ None
+pub comments_from-none : (index : ℕ) (texts : List (List ℕ)) (i : ℕ) → i < index → index + length texts ≤ last_index + 1
+    → finite.get (comments_from index texts) (comment_name i) ≡ None
 comments_from-none index [] i below few = finite.get-empty text_cmp (comment_name i)
 comments_from-none index (text ∷ texts) i below few =
     let low : i ≤ last_index = omega arith in
     let high : index ≤ last_index = omega arith in
-    get-other (comments_from (index + 1) texts) index i text high low (λ (e : i ≡ index). absurd (omega arith)) ∙ comments_from-none (index + 1) texts i (omega arith) (omega arith)
+    get-other (comments_from (index + 1) texts) index i text high low (λ (e : i ≡ index). absurd (omega arith))
+    ∙ comments_from-none (index + 1) texts i (omega arith) (omega arith)
 
-comments_from-ends : (index : ℕ) (texts : List (List ℕ)) (i : ℕ) → index + length texts ≤ i → i ≤ last_index → finite.get (comments_from index texts) (comment_name i) ≡ None
+comments_from-ends : (index : ℕ) (texts : List (List ℕ)) (i : ℕ) → index + length texts ≤ i → i ≤ last_index
+    → finite.get (comments_from index texts) (comment_name i) ≡ None
 comments_from-ends index [] i behind within = finite.get-empty text_cmp (comment_name i)
 comments_from-ends index (text ∷ texts) i behind within =
     let low : index ≤ last_index = omega arith in
-    get-other (comments_from (index + 1) texts) index i text low within (λ (e : i ≡ index). absurd (omega arith)) ∙ comments_from-ends (index + 1) texts i (omega arith) within
+    get-other (comments_from (index + 1) texts) index i text low within (λ (e : i ≡ index). absurd (omega arith))
+    ∙ comments_from-ends (index + 1) texts i (omega arith) within
 
 -- texts that became metadata are read back
 pub texts_of-comments : (texts : List (List ℕ)) → length texts ≤ last_index → texts_of (comments texts) ≡ texts
@@ -98,7 +111,8 @@ texts_of-comments texts few =
 -- ---- what holds of the texts
 
 -- of the texts of metadata holds what holds of each of its texts
-pub texts_of-all : (P : List ℕ → Type 0) (meta : Meta) → ((name text : List ℕ) → finite.get meta name ≡ Some text → P text) → AllByRecursion P (texts_of meta)
+pub texts_of-all : (P : List ℕ → Type 0) (meta : Meta)
+    → ((name text : List ℕ) → finite.get meta name ≡ Some text → P text) → AllByRecursion P (texts_of meta)
 texts_of-all P meta each = array_texts-all P meta (codes "comment") each
 
 pub comment_name-IsMetaName : (index : ℕ) → index ≤ last_index → IsMetaName (comment_name index)
@@ -116,8 +130,11 @@ comment_name-IsMetaName index within =
     }
 
 -- the texts of comments are within their limits where each is a value
-pub comments-limited : (index : ℕ) (texts : List (List ℕ)) → index + length texts ≤ last_index + 1 → AllByRecursion IsValue texts → (name text : List ℕ) → finite.get (comments_from index texts) name ≡ Some text → IsLimitedMeta name text
-comments-limited index [] few values name text found = let none : ◌≡◌ {A = Option (List ℕ)} None (Some text) = sym (finite.get-empty text_cmp name) ∙ found in absurd cc
+pub comments-limited : (index : ℕ) (texts : List (List ℕ)) → index + length texts ≤ last_index + 1
+    → AllByRecursion IsValue texts → (name text : List ℕ) → finite.get (comments_from index texts) name ≡ Some text
+    → IsLimitedMeta name text
+comments-limited index [] few values name text found =
+    let none : ◌≡◌ {A = Option (List ℕ)} None (Some text) = sym (finite.get-empty text_cmp name) ∙ found in absurd cc
 comments-limited index (t ∷ texts) few values name text found =
     let within : index ≤ last_index = omega arith in
     let rest = comments-limited (index + 1) texts (omega arith) values.1 name text in

@@ -22,13 +22,16 @@ use Rattle.model_hosts.proofs.WrittenLines.{meaning-comment, comment-in_line, me
 use Rattle.general_words.proofs.Lists.{all_append, all_map}
 
 -- comments wait one behind the other
-comment_steps : (keys : KeyMap) (waiting : List (List ℕ)) (text : List ℕ) → IsValue text → IsOneLine text → Step (record { keys = keys; waiting = waiting }) (35 ∷ text) (record { keys = keys; waiting = waiting ++ text ∷ [] })
+comment_steps : (keys : KeyMap) (waiting : List (List ℕ)) (text : List ℕ) → IsValue text → IsOneLine text
+    → Step (record { keys = keys; waiting = waiting }) (35 ∷ text) (record { keys = keys; waiting = waiting ++ text ∷ [] })
 comment_steps keys waiting text is_value one_line = record {
   utf8 = IsUtf8-cons 35 text (lit< tt) is_value.utf8;
   does = subst (λ m. Does m (record { keys = keys; waiting = waiting }) (record { keys = keys; waiting = waiting ++ text ∷ [] })) (sym (meaning-comment text one_line)) refl;
 }
 
-comments_lead : (keys : KeyMap) (texts waiting : List (List ℕ)) → AllByRecursion IsValue texts → AllByRecursion IsOneLine texts → Leads Step (record { keys = keys; waiting = waiting }) (map (λ text. 35 ∷ text) texts) (record { keys = keys; waiting = waiting ++ texts })
+comments_lead : (keys : KeyMap) (texts waiting : List (List ℕ)) → AllByRecursion IsValue texts
+    → AllByRecursion IsOneLine texts
+    → Leads Step (record { keys = keys; waiting = waiting }) (map (λ text. 35 ∷ text) texts) (record { keys = keys; waiting = waiting ++ texts })
 comments_lead keys [] waiting values one_line = λ i. record { keys = keys; waiting = sym (append-nil waiting) i }
 comments_lead keys (text ∷ texts) waiting values one_line = (
   record { keys = keys; waiting = waiting ++ text ∷ [] },
@@ -39,7 +42,9 @@ comments_lead keys (text ∷ texts) waiting values one_line = (
 
 -- ---- the line of an entry
 
-row-utf8 : (of_family host : Part) (aliases : List Part) → AllByRecursion (λ alias. IsName (alias_name of_family host alias)) aliases → IsUtf8 (flat_map (λ alias. 32 ∷ alias) aliases)
+row-utf8 : (of_family host : Part) (aliases : List Part)
+    → AllByRecursion (λ alias. IsName (alias_name of_family host alias)) aliases
+    → IsUtf8 (flat_map (λ alias. 32 ∷ alias) aliases)
 row-utf8 of_family host [] names = IsUtf8-nil
 row-utf8 of_family host (alias ∷ aliases) names =
     IsUtf8-append (32 ∷ alias) (flat_map (λ a. 32 ∷ a) aliases) (IsUtf8-cons 32 alias (lit< tt) names.0.parts.1.1.0.utf8) (row-utf8 of_family host aliases names.1)
@@ -60,9 +65,11 @@ pub record IsEntry (part : KeyMap) (address : List ℕ) (host : Part) (texts : L
 
 -- the map with the group
 abbrev pub with_group : KeyMap → List ℕ → Part → List (List ℕ) → List Part → KeyMap
-with_group part address host texts aliases = with_aliases (family address) host aliases (finite.insert part (host_name (family address) host) (host_entry address texts))
+with_group part address host texts aliases =
+    with_aliases (family address) host aliases (finite.insert part (host_name (family address) host) (host_entry address texts))
 
-entry_steps : (part : KeyMap) (address : List ℕ) (host : Part) (texts : List (List ℕ)) (aliases : List Part) → IsEntry part address host texts aliases
+entry_steps : (part : KeyMap) (address : List ℕ) (host : Part) (texts : List (List ℕ)) (aliases : List Part)
+    → IsEntry part address host texts aliases
     → Step (record { keys = part; waiting = texts }) (host_line address host aliases) (record { keys = with_group part address host texts aliases; waiting = [] })
 entry_steps part address host texts aliases is = record {
   utf8 = IsUtf8-append address (9 ∷ (host ++ flat_map (λ a. 32 ∷ a) aliases)) is.is_value.utf8
@@ -84,14 +91,17 @@ entry_steps part address host texts aliases is = record {
 abbrev pub group_lines : List ℕ → Part → List (List ℕ) → List Part → List (List ℕ)
 group_lines address host texts aliases = map (λ text. 35 ∷ text) texts ++ host_line address host aliases ∷ []
 
-pub group_leads : (part : KeyMap) (address : List ℕ) (host : Part) (texts : List (List ℕ)) (aliases : List Part) → IsEntry part address host texts aliases
+pub group_leads : (part : KeyMap) (address : List ℕ) (host : Part) (texts : List (List ℕ)) (aliases : List Part)
+    → IsEntry part address host texts aliases
     → Leads Step (record { keys = part; waiting = [] }) (group_lines address host texts aliases) (record { keys = with_group part address host texts aliases; waiting = [] })
 group_leads part address host texts aliases is =
     Leads-append Step (map (λ text. 35 ∷ text) texts) (host_line address host aliases ∷ []) (record { keys = part; waiting = [] }) (record { keys = part; waiting = texts }) (record { keys = with_group part address host texts aliases; waiting = [] })
     (comments_lead part texts [] is.are_values is.one_line)
     (_, entry_steps part address host texts aliases is, refl)
 
-pub group-in_line : (part : KeyMap) (address : List ℕ) (host : Part) (texts : List (List ℕ)) (aliases : List Part) → IsEntry part address host texts aliases → AllByRecursion (AllByRecursion IsInLine) (group_lines address host texts aliases)
+pub group-in_line : (part : KeyMap) (address : List ℕ) (host : Part) (texts : List (List ℕ)) (aliases : List Part)
+    → IsEntry part address host texts aliases
+    → AllByRecursion (AllByRecursion IsInLine) (group_lines address host texts aliases)
 group-in_line part address host texts aliases is =
     all_append (AllByRecursion IsInLine) (map (λ text. 35 ∷ text) texts) (host_line address host aliases ∷ [])
     (all_map (AllByRecursion IsInLine) (λ text. 35 ∷ text) texts (all-weaker IsOneLine (λ text. AllByRecursion IsInLine (35 ∷ text)) comment-in_line texts is.one_line))

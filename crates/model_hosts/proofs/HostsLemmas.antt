@@ -46,19 +46,25 @@ Step-once before line a b p q = Does-once (meaning line) before a b p.does q.doe
 
 -- an entry's conditions, and what it makes
 abbrev Made : Progress → List ℕ → List ℕ → List (List ℕ) → Option (List ℕ) → Progress
-Made before address host aliases own = record { keys = with_aliases (family address) host aliases (finite.insert before.keys (host_name (family address) host) (host_entry address (with_own before.waiting own))); waiting = [] }
+Made before address host aliases own =
+    record {
+      keys = with_aliases (family address) host aliases (finite.insert before.keys (host_name (family address) host) (host_entry address (with_own before.waiting own)));
+      waiting = [];
+    }
 
 abbrev Fits : Progress → List ℕ → List ℕ → List (List ℕ) → Option (List ℕ) → Type 0
 Fits before address host aliases own =
     (finite.get before.keys (host_name (family address) host) ≡ None) × (IsName (host_name (family address) host) × (AllByRecursion (λ alias. IsName (alias_name (family address) host alias)) aliases × (IsValue address × (AllByRecursion (λ b. 0 < b) address
     × (AllByRecursion IsValue (with_own before.waiting own) × ((length (with_own before.waiting own) ≤ last_index) × (weight (Made before address host aliases own).keys ≤ heaviest_map)))))))
 
-fits-told : (before : Progress) (address host : List ℕ) (aliases : List (List ℕ)) (own : Option (List ℕ)) → IsTold (Fits before address host aliases own)
+fits-told : (before : Progress) (address host : List ℕ) (aliases : List (List ℕ)) (own : Option (List ℕ))
+    → IsTold (Fits before address host aliases own)
 fits-told before address host aliases own =
     both-told (none-told (finite.get before.keys (host_name (family address) host))) (both-told (name-told (host_name (family address) host)) (both-told (all-told (λ alias. IsName (alias_name (family address) host alias)) (λ alias. name-told (alias_name (family address) host alias)) aliases) (both-told (value-told address) (both-told (all-told (λ b. 0 < b) (λ b. le-told 1 b) address)
     (both-told (all-told IsValue value-told (with_own before.waiting own)) (both-told (le-told (length (with_own before.waiting own)) last_index) (le-told (weight (Made before address host aliases own).keys) heaviest_map)))))))
 
-AddsHost-told : (before : Progress) (address host : List ℕ) (aliases : List (List ℕ)) (own : Option (List ℕ)) → IsFound (AddsHost before address host aliases own)
+AddsHost-told : (before : Progress) (address host : List ℕ) (aliases : List (List ℕ)) (own : Option (List ℕ))
+    → IsFound (AddsHost before address host aliases own)
 AddsHost-told before address host aliases own =
     elim (fits-told before address host aliases own) [
       | inl fits ↦ inl (
@@ -120,7 +126,8 @@ word-told word =
     ]
 
 one_line-told : (text : List ℕ) → IsTold (IsOneLine text)
-one_line-told text = all-told (λ b. (b ≢ 10) × (b ≢ 13)) (λ b. both-told (different-told b 10) (different-told b 13)) text
+one_line-told text =
+    all-told (λ b. (b ≢ 10) × (b ≢ 13)) (λ b. both-told (different-told b 10) (different-told b 13)) text
 
 -- the part of a name at a place
 abbrev part_at : Name → ℕ → Part
@@ -178,14 +185,17 @@ hosts_key-told keys name entry = either-told (host_key-told name entry) (alias_k
 -- ---- what lines keep
 
 -- what a map holds at a name it still does, perhaps with another entry, when a key is inserted
-stays : (keys : KeyMap) (name : Name) (entry : Entry) (q : Name) (e : Entry) → finite.get keys q ≡ Some e → (x : Entry) × (finite.get (finite.insert keys name entry) q ≡ Some x)
+stays : (keys : KeyMap) (name : Name) (entry : Entry) (q : Name) (e : Entry) → finite.get keys q ≡ Some e
+    → (x : Entry) × (finite.get (finite.insert keys name entry) q ≡ Some x)
 stays keys name entry q e found = by (eq_by_cmp name_cmp q name) (finite.get-insert name_cmp_total keys name entry q)
   where
-    by : (t : Bool) → finite.get (finite.insert keys name entry) q ≡ cond t (Some entry) (finite.get keys q) → (x : Entry) × (finite.get (finite.insert keys name entry) q ≡ Some x)
+    by : (t : Bool) → finite.get (finite.insert keys name entry) q ≡ cond t (Some entry) (finite.get keys q)
+        → (x : Entry) × (finite.get (finite.insert keys name entry) q ≡ Some x)
     by true there = (entry, there)
     by false there = (e, there ∙ found)
 
-hosts_key-stays : (keys : KeyMap) (name : Name) (entry : Entry) (q : Name) (e : Entry) → IsHostsKey keys q e → IsHostsKey (finite.insert keys name entry) q e
+hosts_key-stays : (keys : KeyMap) (name : Name) (entry : Entry) (q : Name) (e : Entry) → IsHostsKey keys q e
+    → IsHostsKey (finite.insert keys name entry) q e
 hosts_key-stays keys name entry q e (inl host) = inl host
 hosts_key-stays keys name entry q e (inr alias) =
     let host = stays keys name entry (host_name alias.of_family alias.host) alias.host_entry alias.found in
@@ -196,13 +206,15 @@ record AreKeys (keys : KeyMap) : Type 0 where
   limited : (name : Name) (entry : Entry) → finite.get keys name ≡ Some entry → IsLimitedKey name entry
   storable : IsStorable keys
 
-AreKeys-insert : (keys : KeyMap) (name : Name) (entry : Entry) → AreKeys keys → IsLimitedKey name entry → IsHostsKey (finite.insert keys name entry) name entry → AreKeys (finite.insert keys name entry)
+AreKeys-insert : (keys : KeyMap) (name : Name) (entry : Entry) → AreKeys keys → IsLimitedKey name entry
+    → IsHostsKey (finite.insert keys name entry) name entry → AreKeys (finite.insert keys name entry)
 AreKeys-insert keys name entry are limited key = record {
   limited = EachHas-insert IsLimitedKey keys name entry are.limited limited;
   storable = found_in_grown keys name entry (IsHostsKey (finite.insert keys name entry)) key (λ q e found. hosts_key-stays keys name entry q e (are.storable q e found));
 }
 
-alias-limited : (of_family host alias : Part) → IsName (alias_name of_family host alias) → IsLimitedKey (alias_name of_family host alias) (plain_entry [])
+alias-limited : (of_family host alias : Part) → IsName (alias_name of_family host alias)
+    → IsLimitedKey (alias_name of_family host alias) (plain_entry [])
 alias-limited of_family host alias is_name = record {
   is_name = is_name;
   cascading = refl;
@@ -210,8 +222,10 @@ alias-limited of_family host alias is_name = record {
   each_meta = λ meta_name t found. let none : ◌≡◌ {A = Option (List ℕ)} None (Some t) = sym (finite.get-empty text_cmp meta_name) ∙ found in absurd cc;
 }
 
-aliases-are_keys : (of_family host : Part) (aliases : List Part) (keys : KeyMap) (entry : Entry) → AreKeys keys → finite.get keys (host_name of_family host) ≡ Some entry → AllByRecursion IsToken aliases
-    → AllByRecursion (λ alias. IsName (alias_name of_family host alias)) aliases → AreKeys (with_aliases of_family host aliases keys)
+aliases-are_keys : (of_family host : Part) (aliases : List Part) (keys : KeyMap) (entry : Entry) → AreKeys keys
+    → finite.get keys (host_name of_family host) ≡ Some entry → AllByRecursion IsToken aliases
+    → AllByRecursion (λ alias. IsName (alias_name of_family host alias)) aliases
+    → AreKeys (with_aliases of_family host aliases keys)
 aliases-are_keys of_family host [] keys entry are found tokens names = are
 aliases-are_keys of_family host (alias ∷ aliases) keys entry are found tokens names =
     let name = alias_name of_family host alias in
@@ -241,11 +255,14 @@ start-good = record {
   waiting = tt;
 }
 
-with_own-one_line : (waiting : List (List ℕ)) (own : Option (List ℕ)) → AllByRecursion IsOneLine waiting → IsOwn own → AllByRecursion IsOneLine (with_own waiting own)
+with_own-one_line : (waiting : List (List ℕ)) (own : Option (List ℕ)) → AllByRecursion IsOneLine waiting → IsOwn own
+    → AllByRecursion IsOneLine (with_own waiting own)
 with_own-one_line waiting None h is = h
 with_own-one_line waiting (Some own) h is = all_append IsOneLine waiting (own ∷ []) h (is, tt)
 
-AddsHost-good : (before : Progress) (address host : List ℕ) (aliases : List (List ℕ)) (own : Option (List ℕ)) (after : Progress) → IsFine (Gives address host aliases own) → IsGood before → AddsHost before address host aliases own after → IsGood after
+AddsHost-good : (before : Progress) (address host : List ℕ) (aliases : List (List ℕ)) (own : Option (List ℕ))
+    (after : Progress) → IsFine (Gives address host aliases own) → IsGood before
+    → AddsHost before address host aliases own after → IsGood after
 AddsHost-good before address host aliases own after fine good adds =
     let texts = with_own before.waiting own in
     let name = host_name (family address) host in
@@ -281,10 +298,12 @@ Does-good : (m : Meaning) (before after : Progress) → IsFine m → IsGood befo
 Does-good Skipped before after fine good does = subst IsGood (sym does) good
 Does-good (Comment text) before after fine good does =
     subst IsGood (sym does) (record { limited = good.limited; storable = good.storable; waiting = all_append IsOneLine before.waiting (text ∷ []) good.waiting (fine, tt) })
-Does-good (Gives address host aliases own) before after fine good does = AddsHost-good before address host aliases own after fine good does
+Does-good (Gives address host aliases own) before after fine good does =
+    AddsHost-good before address host aliases own after fine good does
 Does-good Unreadable before after fine good does = absurd does
 
-Reads-good : (bytes : List ℕ) (keys : KeyMap) → (reads : Reads bytes keys) → IsGood (record { keys = keys; waiting = reads.waiting })
+Reads-good : (bytes : List ℕ) (keys : KeyMap) → (reads : Reads bytes keys)
+    → IsGood (record { keys = keys; waiting = reads.waiting })
 Reads-good bytes keys reads =
     Leads-kept Step IsGood (AllByRecursion IsInLine) (λ before line after in_line good step. Does-good (meaning line) before after (fine-meaning line in_line) good step.does) (lines bytes) start (record { keys = keys; waiting = reads.waiting }) (lines-in_line bytes) start-good reads.leads
 

@@ -40,10 +40,12 @@ abbrev pub a_and_b : KeyMap
 a_and_b = finite.insert only_a alias_b (plain_entry [])
 
 host_a-is_name : IsName host_a
-host_a-is_name = spelled_is_name (codes "/ipv4/a") host_a (Spells-from_tests (codes "/ipv4/a") host_a (codes "ipv4/a") refl refl refl (lit≤ tt))
+host_a-is_name =
+    spelled_is_name (codes "/ipv4/a") host_a (Spells-from_tests (codes "/ipv4/a") host_a (codes "ipv4/a") refl refl refl (lit≤ tt))
 
 alias_b-is_name : IsName alias_b
-alias_b-is_name = spelled_is_name (codes "/ipv4/a/b") alias_b (Spells-from_tests (codes "/ipv4/a/b") alias_b (codes "ipv4/a/b") refl refl refl (lit≤ tt))
+alias_b-is_name =
+    spelled_is_name (codes "/ipv4/a/b") alias_b (Spells-from_tests (codes "/ipv4/a/b") alias_b (codes "ipv4/a/b") refl refl refl (lit≤ tt))
 
 -- ---- what they weigh
 
@@ -58,7 +60,9 @@ comments-weigh =
     omega (arith, last, all, sum_by-empty text_cmp (λ (m : List ℕ × List ℕ). length m.0 + length m.1))
 
 b_is_new : finite.get only_a alias_b ≡ None
-b_is_new = finite.get-insert name_cmp_total no_keys host_a (host_entry (codes "1") texts) alias_b ∙ finite.get-empty name_cmp alias_b
+b_is_new =
+    finite.get-insert name_cmp_total no_keys host_a (host_entry (codes "1") texts) alias_b
+    ∙ finite.get-empty name_cmp alias_b
 
 a_and_b-light : weight a_and_b ≤ heaviest_map
 a_and_b-light =
@@ -113,11 +117,14 @@ adds_plain_a = record {
 }
 
 pub plain_a_has : finite.get plain_a host_a ≡ None → ⊥
-plain_a_has none = let clash : ◌≡◌ {A = Option Entry} None (Some (plain_entry (codes "1"))) = sym none ∙ get-insert_same name_cmp_total no_keys host_a (plain_entry (codes "1")) in absurd cc
+plain_a_has none =
+    let clash : ◌≡◌ {A = Option Entry} None (Some (plain_entry (codes "1"))) = sym none ∙ get-insert_same name_cmp_total no_keys host_a (plain_entry (codes "1")) in absurd cc
 
 -- a line of ASCII with its meaning
-pub says : (line : List ℕ) (m : Meaning) (before after : Progress) → list_all is_ascii_text_byte line ≡ true → meaning line ≡ m → Does m before after → Step before line after
-says line m before after ascii is does = record { utf8 = (text_from_test line ascii).utf8; does = subst (λ n. Does n before after) (sym is) does }
+pub says : (line : List ℕ) (m : Meaning) (before after : Progress) → list_all is_ascii_text_byte line ≡ true
+    → meaning line ≡ m → Does m before after → Step before line after
+says line m before after ascii is does =
+    record { utf8 = (text_from_test line ascii).utf8; does = subst (λ n. Does n before after) (sym is) does }
 
 abbrev one_waits : Progress
 one_waits = record { keys = no_keys; waiting = codes " c" ∷ [] }

@@ -42,10 +42,13 @@ record WrittenGroups (whole part : KeyMap) (groups : List Group) : Type 0 where
   leads : Leads Step (at part) (flat_map lines_of groups) (at whole)
   in_line : AllByRecursion (AllByRecursion IsInLine) (flat_map lines_of groups)
 
-grouped-host : (f h : Part) (name : Name) (entry : Entry) (keys : List (Name × Entry)) → name ≡ host_name f h → grouped ((name, entry) ∷ keys) ≡ ([], record { host = h; entry = entry; aliases = (grouped keys).0 } ∷ (grouped keys).1)
+grouped-host : (f h : Part) (name : Name) (entry : Entry) (keys : List (Name × Entry)) → name ≡ host_name f h
+    → grouped ((name, entry) ∷ keys)
+    ≡ ([], record { host = h; entry = entry; aliases = (grouped keys).0 } ∷ (grouped keys).1)
 grouped-host f h name entry keys e = ap (λ n. grouped ((n, entry) ∷ keys)) e
 
-grouped-alias : (f h a : Part) (name : Name) (entry : Entry) (keys : List (Name × Entry)) → name ≡ alias_name f h a → grouped ((name, entry) ∷ keys) ≡ (a ∷ (grouped keys).0, (grouped keys).1)
+grouped-alias : (f h a : Part) (name : Name) (entry : Entry) (keys : List (Name × Entry)) → name ≡ alias_name f h a
+    → grouped ((name, entry) ∷ keys) ≡ (a ∷ (grouped keys).0, (grouped keys).1)
 grouped-alias f h a name entry keys e = ap (λ n. grouped ((n, entry) ∷ keys)) e
 
 -- ---- a host
@@ -55,12 +58,15 @@ module _ (whole : KeyMap) (limited : IsLimited whole) (part : KeyMap) (name : Na
   key_limited = limited.each name entry (next_is_there name_cmp_total whole part (name, entry) rest cut)
 
   -- the key and its entry are those that its line gives
-  made : finite.insert part name entry ≡ finite.insert part (host_name (family entry.value) key.host) (host_entry entry.value (texts_of entry.meta))
+  made : finite.insert part name entry
+      ≡ finite.insert part (host_name (family entry.value) key.host) (host_entry entry.value (texts_of entry.meta))
   made =
       let same : entry ≡ host_entry entry.value (texts_of entry.meta) = λ i. record { value = entry.value; meta = key.are_comments i } in
       λ i. finite.insert part (key.is_host i) (same i)
 
-  host_is_entry : (groups : List Part × List Group) → Written whole (finite.insert part name entry) (family entry.value) key.host groups → IsEntry part entry.value key.host (texts_of entry.meta) groups.0
+  host_is_entry : (groups : List Part × List Group)
+      → Written whole (finite.insert part name entry) (family entry.value) key.host groups
+      → IsEntry part entry.value key.host (texts_of entry.meta) groups.0
   host_is_entry groups w = record {
     address_word = key.address;
     host_word = key.word;
@@ -76,12 +82,15 @@ module _ (whole : KeyMap) (limited : IsLimited whole) (part : KeyMap) (name : Na
         (omega (arith, limited.light, sum_by-front (λ (k : Name × Entry). weight_of_key k.0 k.1) whole (with_aliases (family entry.value) key.host groups.0 (finite.insert part name entry)) w.left w.cut));
   }
 
-  host_groups : (groups : List Part × List Group) → Written whole (finite.insert part name entry) (family entry.value) key.host groups → WrittenGroups whole part (record { host = key.host; entry = entry; aliases = groups.0 } ∷ groups.1)
+  host_groups : (groups : List Part × List Group)
+      → Written whole (finite.insert part name entry) (family entry.value) key.host groups
+      → WrittenGroups whole part (record { host = key.host; entry = entry; aliases = groups.0 } ∷ groups.1)
   host_groups groups w =
       let is = host_is_entry groups w in
       let group : Group = record { host = key.host; entry = entry; aliases = groups.0 } in
       record {
-        leads = Leads-append Step (lines_of group) (flat_map lines_of groups.1) (at part) (at (with_group part entry.value key.host (texts_of entry.meta) groups.0)) (at whole)
+        leads =
+            Leads-append Step (lines_of group) (flat_map lines_of groups.1) (at part) (at (with_group part entry.value key.host (texts_of entry.meta) groups.0)) (at whole)
             (group_leads part entry.value key.host (texts_of entry.meta) groups.0 is)
             (subst (λ keys. Leads Step (at (with_aliases (family entry.value) key.host groups.0 keys)) (flat_map lines_of groups.1) (at whole)) made w.leads);
         in_line = all_append (AllByRecursion IsInLine) (lines_of group) (flat_map lines_of groups.1) (group-in_line part entry.value key.host (texts_of entry.meta) groups.0 is) w.in_line;
@@ -89,8 +98,11 @@ module _ (whole : KeyMap) (limited : IsLimited whole) (part : KeyMap) (name : Na
 
 -- ---- the keys that are left
 
-written-host : (whole : KeyMap) → IsLimited whole → (part : KeyMap) (f h : Part) (name : Name) (entry : Entry) (rest : List (Name × Entry)) → finite.entries whole ≡ finite.entries part ++ (name, entry) ∷ rest → (key : IsHostKey name entry)
-    → Written whole (finite.insert part name entry) (family entry.value) key.host (grouped rest) → Written whole part f h (grouped ((name, entry) ∷ rest))
+written-host : (whole : KeyMap) → IsLimited whole
+    → (part : KeyMap) (f h : Part) (name : Name) (entry : Entry) (rest : List (Name × Entry))
+    → finite.entries whole ≡ finite.entries part ++ (name, entry) ∷ rest → (key : IsHostKey name entry)
+    → Written whole (finite.insert part name entry) (family entry.value) key.host (grouped rest)
+    → Written whole part f h (grouped ((name, entry) ∷ rest))
 written-host whole limited part f h name entry rest cut key w =
     let groups = host_groups whole limited part name entry rest cut key (grouped rest) w in
     subst (Written whole part f h) (sym (grouped-host (family entry.value) key.host name entry rest key.is_host)) (record {
@@ -102,8 +114,11 @@ written-host whole limited part f h name entry rest cut key w =
       in_line = groups.in_line;
     })
 
-written-alias : (whole : KeyMap) → IsLimited whole → (part : KeyMap) (f h : Part) (name : Name) (entry : Entry) (rest : List (Name × Entry)) → finite.entries whole ≡ finite.entries part ++ (name, entry) ∷ rest → (key : IsAliasKey whole name entry)
-    → (key.of_family ≡ f) × (key.host ≡ h) → Written whole (finite.insert part name entry) f h (grouped rest) → Written whole part f h (grouped ((name, entry) ∷ rest))
+written-alias : (whole : KeyMap) → IsLimited whole
+    → (part : KeyMap) (f h : Part) (name : Name) (entry : Entry) (rest : List (Name × Entry))
+    → finite.entries whole ≡ finite.entries part ++ (name, entry) ∷ rest → (key : IsAliasKey whole name entry)
+    → (key.of_family ≡ f) × (key.host ≡ h) → Written whole (finite.insert part name entry) f h (grouped rest)
+    → Written whole part f h (grouped ((name, entry) ∷ rest))
 written-alias whole limited part f h name entry rest cut key same w =
     let is_alias : name ≡ alias_name f h key.alias = key.is_alias ∙ (λ i. alias_name (same.0 i) (same.1 i) key.alias) in
     let there = next_is_there name_cmp_total whole part (name, entry) rest cut in
@@ -118,11 +133,17 @@ written-alias whole limited part f h name entry rest cut key same w =
     })
 
 -- one more alias behind the last host
-one_alias_more : (front : List (Name × Entry)) (host : Name × Entry) (aliases : List (Name × Entry)) (key : Name × Entry) (rest all : List (Name × Entry)) → all ≡ front ++ host ∷ (aliases ++ key ∷ rest) → all ≡ front ++ host ∷ ((aliases ++ key ∷ []) ++ rest)
-one_alias_more front host aliases key rest all e = e ∙ ap (λ es. front ++ host ∷ es) (sym (append_assoc aliases (key ∷ []) rest))
+one_alias_more : (front : List (Name × Entry)) (host : Name × Entry) (aliases : List (Name × Entry))
+    (key : Name × Entry) (rest all : List (Name × Entry)) → all ≡ front ++ host ∷ (aliases ++ key ∷ rest)
+    → all ≡ front ++ host ∷ ((aliases ++ key ∷ []) ++ rest)
+one_alias_more front host aliases key rest all e =
+    e ∙ ap (λ es. front ++ host ∷ es) (sym (append_assoc aliases (key ∷ []) rest))
 
-written : (whole : KeyMap) → IsLimited whole → IsStorable whole → (rest : List (Name × Entry)) (part : KeyMap) (f h : Part) (front : List (Name × Entry)) (last : Entry) (aliases : List (Name × Entry)) → finite.entries whole ≡ finite.entries part ++ rest
-    → finite.entries whole ≡ front ++ (host_name f h, last) ∷ (aliases ++ rest) → AllByRecursion (λ (key : Name × Entry). length key.0.parts ≢ 2) aliases → Written whole part f h (grouped rest)
+written : (whole : KeyMap) → IsLimited whole → IsStorable whole
+    → (rest : List (Name × Entry)) (part : KeyMap) (f h : Part) (front : List (Name × Entry)) (last : Entry)
+    (aliases : List (Name × Entry)) → finite.entries whole ≡ finite.entries part ++ rest
+    → finite.entries whole ≡ front ++ (host_name f h, last) ∷ (aliases ++ rest)
+    → AllByRecursion (λ (key : Name × Entry). length key.0.parts ≢ 2) aliases → Written whole part f h (grouped rest)
 written whole limited storable [] part f h front last aliases cut order no_hosts =
     record { left = []; cut = cut; words = tt; names = tt; leads = λ i. at (none_left whole part cut i); in_line = tt }
 written whole limited storable (key ∷ rest) part f h front last aliases cut order no_hosts =
@@ -148,9 +169,13 @@ written whole limited storable (key ∷ rest) part f h front last aliases cut or
 
 -- ---- all keys
 
-all_written : (whole : KeyMap) → IsLimited whole → IsStorable whole → (all : List (Name × Entry)) → finite.entries whole ≡ all → WrittenGroups whole no_keys (grouped all).1
+all_written : (whole : KeyMap) → IsLimited whole → IsStorable whole → (all : List (Name × Entry))
+    → finite.entries whole ≡ all → WrittenGroups whole no_keys (grouped all).1
 all_written whole limited storable [] e =
-    record { leads = λ i. at (none_left whole no_keys (all_left whole ∙ ap (λ es. finite.entries no_keys ++ es) e) i); in_line = tt }
+    record {
+      leads = λ i. at (none_left whole no_keys (all_left whole ∙ ap (λ es. finite.entries no_keys ++ es) e) i);
+      in_line = tt;
+    }
 all_written whole limited storable (key ∷ rest) e =
     let cut : finite.entries whole ≡ finite.entries no_keys ++ key ∷ rest = all_left whole ∙ ap (λ es. finite.entries no_keys ++ es) e in
     let there = next_is_there name_cmp_total whole no_keys key rest cut in
@@ -167,4 +192,7 @@ all_written whole limited storable (key ∷ rest) e =
 pub text-reads : (keys : KeyMap) → IsLimited keys → IsStorable keys → Reads (text keys) keys
 text-reads keys limited storable =
     let all = all_written keys limited storable (finite.entries keys) refl in
-    record { waiting = []; leads = subst (λ ls. Leads Step start ls (at keys)) (sym (lines-ended (flat_map lines_of (grouped (finite.entries keys)).1) all.in_line)) all.leads }
+    record {
+      waiting = [];
+      leads = subst (λ ls. Leads Step start ls (at keys)) (sym (lines-ended (flat_map lines_of (grouped (finite.entries keys)).1) all.in_line)) all.leads;
+    }

@@ -16,20 +16,30 @@ pub word_byte-not_blank : (b : ℕ) → IsWordByte b → is_blank b ≡ false
 word_byte-not_blank b h = or_from (b == 32) (b == 9) (ne_eqb b 32 h.no_blank) (ne_eqb b 9 h.no_tab)
 
 not_blanks : (word : List ℕ) → IsWord word → All (λ b. is_blank b ≡ false) word
-not_blanks word is = All-from_recursion (λ b. is_blank b ≡ false) word (all-weaker IsWordByte (λ b. is_blank b ≡ false) word_byte-not_blank word is.bytes)
+not_blanks word is =
+    All-from_recursion (λ b. is_blank b ≡ false) word (all-weaker IsWordByte (λ b. is_blank b ≡ false) word_byte-not_blank word is.bytes)
 
-filter-filled : (word : List ℕ) (rest : List (List ℕ)) → IsWord word → filter is_filled (word ∷ rest) ≡ word ∷ filter is_filled rest
+filter-filled : (word : List ℕ) (rest : List (List ℕ)) → IsWord word
+    → filter is_filled (word ∷ rest) ≡ word ∷ filter is_filled rest
 filter-filled [] rest is = absurd (is.filled refl)
 filter-filled (b ∷ word) rest is = refl
 
 -- a word, a blank, and what follows
-pub words-word : (word : List ℕ) (blank : ℕ) (rest : List ℕ) → IsWord word → is_blank blank ≡ true → words (word ++ blank ∷ rest) ≡ word ∷ words rest
-words-word word blank rest is is_one = ap (filter is_filled) (slice_split_at is_blank word blank rest (not_blanks word is) is_one) ∙ filter-filled word (slice_split is_blank rest) is
+pub words-word : (word : List ℕ) (blank : ℕ) (rest : List ℕ) → IsWord word → is_blank blank ≡ true
+    → words (word ++ blank ∷ rest) ≡ word ∷ words rest
+words-word word blank rest is is_one =
+    ap (filter is_filled) (slice_split_at is_blank word blank rest (not_blanks word is) is_one)
+    ∙ filter-filled word (slice_split is_blank rest) is
 
 -- a word, and words each behind a blank
-pub words-row : (word : List ℕ) (row : List (List ℕ)) → IsWord word → AllByRecursion IsWord row → words (word ++ flat_map (λ w. 32 ∷ w) row) ≡ word ∷ row
-words-row word [] is are = ap words (append-nil word) ∙ ap (filter is_filled) (slice_split_none is_blank word (not_blanks word is)) ∙ filter-filled word [] is
-words-row word (next ∷ row) is are = words-word word 32 (next ++ flat_map (λ w. 32 ∷ w) row) is refl ∙ ap (λ ws. word ∷ ws) (words-row next row are.0 are.1)
+pub words-row : (word : List ℕ) (row : List (List ℕ)) → IsWord word → AllByRecursion IsWord row
+    → words (word ++ flat_map (λ w. 32 ∷ w) row) ≡ word ∷ row
+words-row word [] is are =
+    ap words (append-nil word) ∙ ap (filter is_filled) (slice_split_none is_blank word (not_blanks word is))
+    ∙ filter-filled word [] is
+words-row word (next ∷ row) is are =
+    words-word word 32 (next ++ flat_map (λ w. 32 ∷ w) row) is refl
+    ∙ ap (λ ws. word ∷ ws) (words-row next row are.0 are.1)
 
 -- ---- what holds of the words and the comment of a line
 
@@ -87,25 +97,35 @@ cut_at_hash-own (b ∷ bytes) h =
 token_byte : (b : ℕ) → IsData b → is_blank b ≡ false → IsTokenByte b
 token_byte b h not_blank =
     let tests = or_parts (b == 32) (b == 9) not_blank in
-    record { no_tab = eqb-false b 9 tests.1; no_feed = h.0; no_return = h.1; no_blank = eqb-false b 32 tests.0; no_hash = h.2 }
+    record {
+      no_tab = eqb-false b 9 tests.1;
+      no_feed = h.0;
+      no_return = h.1;
+      no_blank = eqb-false b 32 tests.0;
+      no_hash = h.2;
+    }
 
-onto_first-tokens : (b : ℕ) (parts : List (List ℕ)) → IsTokenByte b → AllByRecursion (AllByRecursion IsTokenByte) parts → AllByRecursion (AllByRecursion IsTokenByte) (onto_first b parts)
+onto_first-tokens : (b : ℕ) (parts : List (List ℕ)) → IsTokenByte b → AllByRecursion (AllByRecursion IsTokenByte) parts
+    → AllByRecursion (AllByRecursion IsTokenByte) (onto_first b parts)
 onto_first-tokens b [] h all = ((h, tt), tt)
 onto_first-tokens b (part ∷ parts) h all = ((h, all.0), all.1)
 
-split-tokens : (bytes : List ℕ) → AllByRecursion IsData bytes → AllByRecursion (AllByRecursion IsTokenByte) (slice_split is_blank bytes)
+split-tokens : (bytes : List ℕ) → AllByRecursion IsData bytes
+    → AllByRecursion (AllByRecursion IsTokenByte) (slice_split is_blank bytes)
 split-tokens [] h = (tt, tt)
 split-tokens (b ∷ bytes) h =
     cond_both (is_blank b) ([] ∷ slice_split is_blank bytes) (onto_first b (slice_split is_blank bytes)) (λ parts. AllByRecursion (AllByRecursion IsTokenByte) parts)
     (λ _. (tt, split-tokens bytes h.1))
     (λ not_blank. onto_first-tokens b (slice_split is_blank bytes) (token_byte b h.0 not_blank) (split-tokens bytes h.1))
 
-filtered-tokens : (parts : List (List ℕ)) → AllByRecursion (AllByRecursion IsTokenByte) parts → AllByRecursion IsToken (filter is_filled parts)
+filtered-tokens : (parts : List (List ℕ)) → AllByRecursion (AllByRecursion IsTokenByte) parts
+    → AllByRecursion IsToken (filter is_filled parts)
 filtered-tokens [] h = tt
 filtered-tokens ([] ∷ parts) h = filtered-tokens parts h.1
 filtered-tokens ((b ∷ word) ∷ parts) h = (record { filled = λ e. absurd cc; bytes = h.0 }, filtered-tokens parts h.1)
 
-fine-meaning_of : (tokens : List (List ℕ)) (own : Option (List ℕ)) → AllByRecursion IsToken tokens → IsOwn own → IsFine (meaning_of tokens own)
+fine-meaning_of : (tokens : List (List ℕ)) (own : Option (List ℕ)) → AllByRecursion IsToken tokens → IsOwn own
+    → IsFine (meaning_of tokens own)
 fine-meaning_of [] None h own = tt
 fine-meaning_of [] (Some text) h own = own
 fine-meaning_of (word ∷ []) own h is_own = tt
@@ -113,7 +133,8 @@ fine-meaning_of (address ∷ host ∷ aliases) own h is_own = (h.0, h.1.0, h.1.1
 
 no_returns : (bytes : List ℕ) → list_any (λ b. b == 13) bytes ≡ false → AllByRecursion (λ b. b ≢ 13) bytes
 no_returns [] h = tt
-no_returns (b ∷ bytes) h = let parts = or_parts (b == 13) (list_any (λ b. b == 13) bytes) h in (eqb-false b 13 parts.0, no_returns bytes parts.1)
+no_returns (b ∷ bytes) h =
+    let parts = or_parts (b == 13) (list_any (λ b. b == 13) bytes) h in (eqb-false b 13 parts.0, no_returns bytes parts.1)
 
 pub fine-meaning : (line : List ℕ) → AllByRecursion IsInLine line → IsFine (meaning line)
 fine-meaning line in_line =

@@ -49,7 +49,8 @@ pub record AddsHost (before : Progress) (address host : List ℕ) (aliases : Lis
   pub no_nul : AllByRecursion (λ b. 0 < b) address
   pub are_values : AllByRecursion IsValue (with_own before.waiting own)
   pub few : length (with_own before.waiting own) ≤ last_index
-  pub added : after ≡ record { keys = with_aliases (family address) host aliases (finite.insert before.keys (host_name (family address) host) (host_entry address (with_own before.waiting own))); waiting = [] }
+  pub added : after
+      ≡ record { keys = with_aliases (family address) host aliases (finite.insert before.keys (host_name (family address) host) (host_entry address (with_own before.waiting own))); waiting = [] }
   pub light : weight after.keys ≤ heaviest_map
 
 -- what a line of each meaning makes of what was read before it

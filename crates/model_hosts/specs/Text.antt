@@ -36,7 +36,8 @@ host_line address host aliases = address ++ 9 ∷ (host ++ flat_map (λ alias. 3
 
 -- the lines of a group: its comments, each behind a `#`, and the entry
 abbrev pub lines_of : Group → List (List ℕ)
-lines_of group = map (λ text. 35 ∷ text) (texts_of group.entry.meta) ++ host_line group.entry.value group.host group.aliases ∷ []
+lines_of group =
+    map (λ text. 35 ∷ text) (texts_of group.entry.meta) ++ host_line group.entry.value group.host group.aliases ∷ []
 
 -- the text of a map
 abbrev pub text : KeyMap → List ℕ

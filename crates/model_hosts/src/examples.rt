@@ -24,10 +24,13 @@ pub fn some_lines_are_skipped_or_wait()
 /// `#` is the entry's own comment.
 pub fn entries_have_their_words()
     ensures tab { meaning (codes "127.0.0.1\tlocalhost") ≡ Gives (codes "127.0.0.1") (codes "localhost") [] None }
-    ensures blanks { meaning (codes " ::1     ip6-localhost ip6-loopback \r") ≡ Gives (codes "::1") (codes "ip6-localhost") (codes "ip6-loopback" ∷ []) None }
-    ensures own { meaning (codes "127.0.1.1\tbox.example\tbox   # this machine") ≡ Gives (codes "127.0.1.1") (codes "box.example") (codes "box" ∷ []) (Some (codes " this machine")) }
+    ensures blanks { meaning (codes " ::1     ip6-localhost ip6-loopback \r")
+        ≡ Gives (codes "::1") (codes "ip6-localhost") (codes "ip6-loopback" ∷ []) None }
+    ensures own { meaning (codes "127.0.1.1\tbox.example\tbox   # this machine")
+        ≡ Gives (codes "127.0.1.1") (codes "box.example") (codes "box" ∷ []) (Some (codes " this machine")) }
     ensures hash_within { meaning (codes "1 a#b c") ≡ Gives (codes "1") (codes "a") [] (Some (codes "b c")) }
-    ensures no_escapes { meaning (codes "1 a\\/b % ..") ≡ Gives (codes "1") (codes "a\\/b") (codes "%" ∷ codes ".." ∷ []) None }
+    ensures no_escapes { meaning (codes "1 a\\/b % ..")
+        ≡ Gives (codes "1") (codes "a\\/b") (codes "%" ∷ codes ".." ∷ []) None }
 {}
 
 /// One word alone, and a carriage return anywhere but once at the end, have no reading.
@@ -56,13 +59,16 @@ pub fn own_comments_come_last()
 pub fn comments_are_numbered_items()
     ensures first { comment_name 0 ≡ codes "comment/#0" }
     ensures eleventh { comment_name 10 ≡ codes "comment/#_10" }
-    ensures two { comments (codes "a" ∷ codes "b" ∷ []) ≡ map.insert (map.insert map.empty (codes "comment/#1") (codes "b")) (codes "comment/#0") (codes "a") }
+    ensures two { comments (codes "a" ∷ codes "b" ∷ [])
+        ≡ map.insert (map.insert map.empty (codes "comment/#1") (codes "b")) (codes "comment/#0") (codes "a") }
 {}
 
 /// Each host is followed by its aliases, which stand on its line behind it.
 pub fn groups_have_their_lines()
-    ensures groups { grouped ((host_name (codes "ipv4") (codes "a"), plain_entry (codes "1")) ∷ (alias_name (codes "ipv4") (codes "a") (codes "b"), plain_entry []) ∷ (alias_name (codes "ipv4") (codes "a") (codes "c"), plain_entry []) ∷ (host_name (codes "ipv6") (codes "d"), plain_entry (codes "::2")) ∷ []) ≡ ([], record { host = codes "a"; entry = plain_entry (codes "1"); aliases = codes "b" ∷ codes "c" ∷ [] } ∷ record { host = codes "d"; entry = plain_entry (codes "::2"); aliases = [] } ∷ []) }
-    ensures line { host_line (codes "::1") (codes "ip6-localhost") (codes "ip6-loopback" ∷ codes "x" ∷ []) ≡ codes "::1\tip6-localhost ip6-loopback x" }
+    ensures groups { grouped ((host_name (codes "ipv4") (codes "a"), plain_entry (codes "1")) ∷ (alias_name (codes "ipv4") (codes "a") (codes "b"), plain_entry []) ∷ (alias_name (codes "ipv4") (codes "a") (codes "c"), plain_entry []) ∷ (host_name (codes "ipv6") (codes "d"), plain_entry (codes "::2")) ∷ [])
+        ≡ ([], record { host = codes "a"; entry = plain_entry (codes "1"); aliases = codes "b" ∷ codes "c" ∷ [] } ∷ record { host = codes "d"; entry = plain_entry (codes "::2"); aliases = [] } ∷ []) }
+    ensures line { host_line (codes "::1") (codes "ip6-localhost") (codes "ip6-loopback" ∷ codes "x" ∷ [])
+        ≡ codes "::1\tip6-localhost ip6-loopback x" }
     ensures no_alias { host_line (codes "127.0.0.1") (codes "localhost") [] ≡ codes "127.0.0.1\tlocalhost" }
 {}
 
@@ -70,7 +76,8 @@ pub fn groups_have_their_lines()
 /// order, whichever came first.
 pub fn maps_have_their_texts()
     ensures no_keys { text no_keys ≡ [] }
-    ensures hosts { text (map.insert (map.insert (map.insert (map.insert (map.insert no_keys (host_name (codes "ipv4") (codes "localhost")) (host_entry (codes "127.0.0.1") (codes " The loopback" ∷ []))) (host_name (codes "ipv4") (codes "box.example")) (host_entry (codes "127.0.1.1") (codes " this machine" ∷ []))) (alias_name (codes "ipv4") (codes "box.example") (codes "box")) (plain_entry [])) (host_name (codes "ipv6") (codes "ip6-localhost")) (host_entry (codes "::1") [])) (alias_name (codes "ipv6") (codes "ip6-localhost") (codes "ip6-loopback")) (plain_entry [])) ≡ codes "# this machine\n127.0.1.1\tbox.example box\n# The loopback\n127.0.0.1\tlocalhost\n::1\tip6-localhost ip6-loopback\n" }
+    ensures hosts { text (map.insert (map.insert (map.insert (map.insert (map.insert no_keys (host_name (codes "ipv4") (codes "localhost")) (host_entry (codes "127.0.0.1") (codes " The loopback" ∷ []))) (host_name (codes "ipv4") (codes "box.example")) (host_entry (codes "127.0.1.1") (codes " this machine" ∷ []))) (alias_name (codes "ipv4") (codes "box.example") (codes "box")) (plain_entry [])) (host_name (codes "ipv6") (codes "ip6-localhost")) (host_entry (codes "::1") [])) (alias_name (codes "ipv6") (codes "ip6-localhost") (codes "ip6-loopback")) (plain_entry []))
+        ≡ codes "# this machine\n127.0.1.1\tbox.example box\n# The loopback\n127.0.0.1\tlocalhost\n::1\tip6-localhost ip6-loopback\n" }
 {}
 
 /// An entry takes the comment that waited and then its own, and an alias that stands twice is one key. A comment behind
@@ -94,7 +101,8 @@ pub fn files_are_bad_at_their_first_bad_line()
 /// A host and its alias can be stored, and the alias alone can't: the format doesn't go by keys.
 pub fn hosts_do_not_go_by_keys()
     ensures both { IsStorable (map.insert (map.insert no_keys (host_name (codes "ipv4") (codes "a")) (host_entry (codes "1") (codes " c" ∷ codes " d" ∷ []))) (alias_name (codes "ipv4") (codes "a") (codes "b")) (plain_entry [])) }
-    ensures alone { IsStorable (map.insert no_keys (alias_name (codes "ipv4") (codes "a") (codes "b")) (plain_entry [])) → ⊥ }
+    ensures alone { IsStorable (map.insert no_keys (alias_name (codes "ipv4") (codes "a") (codes "b")) (plain_entry []))
+        → ⊥ }
 {}
 
 /// A map breaks at an alias without its host, and at a host whose family isn't that of its address.

@@ -23,7 +23,8 @@ pub fn a_text_reads_as_no_other_map()
 
 /// Two such maps that have one text are one.
 pub fn different_maps_have_different_texts()
-    ensures { (keys other : KeyMap) → IsLimited keys → IsStorable keys → IsLimited other → IsStorable other → text keys ≡ text other → keys ≡ other }
+    ensures { (keys other : KeyMap) → IsLimited keys → IsStorable keys → IsLimited other → IsStorable other
+        → text keys ≡ text other → keys ≡ other }
 {}
 
 /// A map that some bytes read as can be stored, and is within the limits of a file.
@@ -55,6 +56,8 @@ pub fn a_map_can_be_stored_or_has_one_first_breaking_key()
     ensures some { (keys : KeyMap) → IsStorable keys ⊎ ((name : Name) × BreaksAt keys name) }
     ensures not_both { (keys : KeyMap) (name : Name) → IsStorable keys → BreaksAt keys name → ⊥ }
     ensures one_key { (keys : KeyMap) (name other : Name) → BreaksAt keys name → BreaksAt keys other → name ≡ other }
-    ensures key { (keys : KeyMap) (name : Name) → BreaksAt keys name → (entry : Entry) × (map.get keys name ≡ Some entry) × (IsHostsKey keys name entry → ⊥) }
-    ensures first { (keys : KeyMap) (name : Name) → BreaksAt keys name → (other : Name) (entry : Entry) → map.get keys other ≡ Some entry → name_cmp other name ≡ Less → IsHostsKey keys other entry }
+    ensures key { (keys : KeyMap) (name : Name) → BreaksAt keys name
+        → (entry : Entry) × (map.get keys name ≡ Some entry) × (IsHostsKey keys name entry → ⊥) }
+    ensures first { (keys : KeyMap) (name : Name) → BreaksAt keys name → (other : Name) (entry : Entry)
+        → map.get keys other ≡ Some entry → name_cmp other name ≡ Less → IsHostsKey keys other entry }
 {}

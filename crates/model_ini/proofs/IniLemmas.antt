@@ -22,7 +22,8 @@ use Rattle.std.specs.List.{AllByRecursion}
 
 -- ---- one map
 
-AddsKey-once : (before : KeyMap) (text value : List ℕ) (a b : KeyMap) → AddsKey before text value a → AddsKey before text value b → a ≡ b
+AddsKey-once : (before : KeyMap) (text value : List ℕ) (a b : KeyMap) → AddsKey before text value a
+    → AddsKey before text value b → a ≡ b
 AddsKey-once before text value a b p q =
     let same = Spells-once (47 ∷ text) p.name q.name p.spelled q.spelled in
     p.added ∙ ap (λ name. finite.insert before name (plain_entry value)) same ∙ sym q.added
@@ -39,10 +40,12 @@ Step-once before line a b p q = Does-once (meaning line) before a b p.does q.doe
 
 -- an entry's conditions, beside the name that it spells
 abbrev Fits : KeyMap → List ℕ → Name → Type 0
-Fits before value name = (name.parts ≢ []) × ((finite.get before name ≡ None) × (IsValue value × (weight (finite.insert before name (plain_entry value)) ≤ heaviest_map)))
+Fits before value name =
+    (name.parts ≢ []) × ((finite.get before name ≡ None) × (IsValue value × (weight (finite.insert before name (plain_entry value)) ≤ heaviest_map)))
 
 fits-told : (before : KeyMap) (value : List ℕ) (name : Name) → IsTold (Fits before value name)
-fits-told before value name = both-told (some-told name.parts) (both-told (none-told (finite.get before name)) (both-told (value-told value) (le-told (weight (finite.insert before name (plain_entry value))) heaviest_map)))
+fits-told before value name =
+    both-told (some-told name.parts) (both-told (none-told (finite.get before name)) (both-told (value-told value) (le-told (weight (finite.insert before name (plain_entry value))) heaviest_map)))
 
 AddsKey-told : (before : KeyMap) (text value : List ℕ) → IsFound (AddsKey before text value)
 AddsKey-told before text value =
@@ -106,7 +109,8 @@ no_keys-good = record {
   storable = EachHas-no_keys IsIniKey;
 }
 
-plain-limited : (text value : List ℕ) (name : Name) → Spells (47 ∷ text) name → IsValue value → IsLimitedKey name (plain_entry value)
+plain-limited : (text value : List ℕ) (name : Name) → Spells (47 ∷ text) name → IsValue value
+    → IsLimitedKey name (plain_entry value)
 plain-limited text value name spelled is_value = record {
   is_name = spelled_is_name (47 ∷ text) name spelled;
   cascading = slash_is_cascading (47 ∷ text) name refl spelled;
@@ -114,7 +118,8 @@ plain-limited text value name spelled is_value = record {
   each_meta = λ meta_name t found. let none : ◌≡◌ {A = Option (List ℕ)} None (Some t) = sym (finite.get-empty text_cmp meta_name) ∙ found in absurd cc;
 }
 
-AddsKey-good : (before : KeyMap) (text value : List ℕ) (after : KeyMap) → IsGood before → AddsKey before text value after → IsGood after
+AddsKey-good : (before : KeyMap) (text value : List ℕ) (after : KeyMap) → IsGood before
+    → AddsKey before text value after → IsGood after
 AddsKey-good before text value after good adds =
     subst IsGood (sym adds.added) (record {
       limited = record {

@@ -32,7 +32,8 @@ adds_a text spelled = record {
 }
 
 -- and nothing adds it again
-pub adds_a-once : (text value : List ℕ) (after : KeyMap) → Spells (47 ∷ text) name_a → AddsKey plain_a text value after → ⊥
+pub adds_a-once : (text value : List ℕ) (after : KeyMap) → Spells (47 ∷ text) name_a → AddsKey plain_a text value after
+    → ⊥
 adds_a-once text value after spelled adds =
     let same = Spells-once (47 ∷ text) adds.name name_a adds.spelled spelled in
     let none : ◌≡◌ {A = Option Entry} None (Some (plain_entry (codes "1"))) = sym adds.is_new ∙ ap (finite.get plain_a) same ∙ plain_a_has in
@@ -46,9 +47,13 @@ adds_no_root value before after adds =
     adds.below (ap (λ (n : Name). n.parts) same)
 
 -- a line that is skipped leads on
-pub skips : (line : List ℕ) (keys : KeyMap) → list_all is_ascii_text_byte line ≡ true → meaning line ≡ Skipped → Step keys line keys
-skips line keys ascii skipped = record { utf8 = (text_from_test line ascii).utf8; does = subst (λ m. Does m keys keys) (sym skipped) refl }
+pub skips : (line : List ℕ) (keys : KeyMap) → list_all is_ascii_text_byte line ≡ true → meaning line ≡ Skipped
+    → Step keys line keys
+skips line keys ascii skipped =
+    record { utf8 = (text_from_test line ascii).utf8; does = subst (λ m. Does m keys keys) (sym skipped) refl }
 
 -- and so does the line of an entry
-pub enters : (line text value : List ℕ) (before after : KeyMap) → list_all is_ascii_text_byte line ≡ true → meaning line ≡ Pair text value → AddsKey before text value after → Step before line after
-enters line text value before after ascii pair adds = record { utf8 = (text_from_test line ascii).utf8; does = subst (λ m. Does m before after) (sym pair) adds }
+pub enters : (line text value : List ℕ) (before after : KeyMap) → list_all is_ascii_text_byte line ≡ true
+    → meaning line ≡ Pair text value → AddsKey before text value after → Step before line after
+enters line text value before after ascii pair adds =
+    record { utf8 = (text_from_test line ascii).utf8; does = subst (λ m. Does m before after) (sym pair) adds }

@@ -34,7 +34,8 @@ unfolding root
 root-is_name = record { parts = tt; limit = omega arith }
 
 -- only the mountpoint has no relative name
-below-filled : (name : Name) → IsName name → name.namespace ≡ Cascading → name.parts ≢ [] → IsFilled (relative_text name)
+below-filled : (name : Name) → IsName name → name.namespace ≡ Cascading → name.parts ≢ []
+    → IsFilled (relative_text name)
 unfolding root
 below-filled name is cascading below = by (relative_text name) refl
   where
@@ -45,7 +46,8 @@ below-filled name is cascading below = by (relative_text name) refl
     by (b ∷ bytes) e = tt
 
 relative_text-utf8 : (name : Name) → IsName name → name.namespace ≡ Cascading → IsUtf8 (relative_text name)
-relative_text-utf8 name is cascading = utf8-behind 47 [] (relative_text name) (lit< tt) (relative_text-spells name is cascading).utf8
+relative_text-utf8 name is cascading =
+    utf8-behind 47 [] (relative_text name) (lit< tt) (relative_text-spells name is cascading).utf8
 
 -- ---- its line
 
@@ -55,7 +57,8 @@ line_of_key key = line_of (relative_text key.0) key.1.value
 plain : (entry : Entry) → entry.meta ≡ finite.empty → entry ≡ plain_entry entry.value
 plain entry e = λ i. record { value = entry.value; meta = e i }
 
-key-adds : (before : KeyMap) (name : Name) (entry : Entry) → finite.get before name ≡ None → IsLimitedKey name entry → IsIniKey name entry → weight before + weight_of_key name entry ≤ heaviest_map
+key-adds : (before : KeyMap) (name : Name) (entry : Entry) → finite.get before name ≡ None → IsLimitedKey name entry
+    → IsIniKey name entry → weight before + weight_of_key name entry ≤ heaviest_map
     → AddsKey before (relative_text name) entry.value (finite.insert before name entry)
 key-adds before name entry new limited key light = record {
   name = name;
@@ -67,7 +70,8 @@ key-adds before name entry new limited key light = record {
   light = omega (arith, weight-insert before name entry new);
 }
 
-key-steps : (before : KeyMap) (name : Name) (entry : Entry) → finite.get before name ≡ None → IsLimitedKey name entry → IsIniKey name entry → weight before + weight_of_key name entry ≤ heaviest_map
+key-steps : (before : KeyMap) (name : Name) (entry : Entry) → finite.get before name ≡ None → IsLimitedKey name entry
+    → IsIniKey name entry → weight before + weight_of_key name entry ≤ heaviest_map
     → Step before (line_of_key (name, entry)) (finite.insert before name entry)
 key-steps before name entry new limited key light = record {
   utf8 = line_of-utf8 (relative_text name) entry.value (relative_text-utf8 name limited.is_name limited.cascading) limited.is_value.utf8;
@@ -79,7 +83,8 @@ key-steps before name entry new limited key light = record {
 -- ---- the lines of all keys
 
 -- the lines of the keys that are left lead from the front of a map to the whole
-keys_lead : (whole : KeyMap) → IsLimited whole → IsStorable whole → (rest : List (Name × Entry)) (part : KeyMap) → finite.entries whole ≡ finite.entries part ++ rest → Leads Step part (map line_of_key rest) whole
+keys_lead : (whole : KeyMap) → IsLimited whole → IsStorable whole → (rest : List (Name × Entry)) (part : KeyMap)
+    → finite.entries whole ≡ finite.entries part ++ rest → Leads Step part (map line_of_key rest) whole
 keys_lead whole limited storable [] part cut = none_left whole part cut
 keys_lead whole limited storable (key ∷ rest) part cut =
     let new = next_is_new name_cmp_total whole part key rest cut in

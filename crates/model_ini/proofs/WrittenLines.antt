@@ -21,7 +21,8 @@ use Rattle.general_words.proofs.Lists.{all_append}
 pub text_of-value_signs : (text : List ℕ) → text_of (value_signs text) ≡ Some text
 text_of-value_signs text =
     text_of-at_first cover_blank byte_of-cover_blank (at_last cover_blank (map value_sign text))
-    ∙ text_of-at_last cover_blank byte_of-cover_blank (map value_sign text) ∙ text_of-map value_sign byte_of-value_sign text
+    ∙ text_of-at_last cover_blank byte_of-cover_blank (map value_sign text)
+    ∙ text_of-map value_sign byte_of-value_sign text
 
 pub text_of-name_signs : (text : List ℕ) → text_of (name_signs text) ≡ Some text
 text_of-name_signs text =
@@ -34,7 +35,8 @@ abbrev pub line_signs : List ℕ → List ℕ → List Sign
 line_signs name value = name_signs name ++ Plain 32 ∷ Plain 61 ∷ Plain 32 ∷ value_signs value
 
 pub line_of-spelled : (name value : List ℕ) → line_of name value ≡ flat_map spelled_sign (line_signs name value)
-line_of-spelled name value = sym (flat_map-append spelled_sign (name_signs name) (Plain 32 ∷ Plain 61 ∷ Plain 32 ∷ value_signs value))
+line_of-spelled name value =
+    sym (flat_map-append spelled_sign (name_signs name) (Plain 32 ∷ Plain 61 ∷ Plain 32 ∷ value_signs value))
 
 pub line_signs-written : (name value : List ℕ) → AllByRecursion IsWritten (line_signs name value)
 line_signs-written name value =
@@ -54,7 +56,8 @@ line_of-clean name value =
 
 -- no line feed stands in it
 pub line_of-in_line : (name value : List ℕ) → AllByRecursion IsInLine (line_of name value)
-line_of-in_line name value = all-weaker (λ b. (b ≢ 10) × (b ≢ 13)) IsInLine (λ b h. h.0) (line_of name value) (line_of-clean name value)
+line_of-in_line name value =
+    all-weaker (λ b. (b ≢ 10) × (b ≢ 13)) IsInLine (λ b h. h.0) (line_of name value) (line_of-clean name value)
 
 -- its signs are those that were written
 line_of-signs : (name value : List ℕ) → signs (without_return (line_of name value)) ≡ line_signs name value
@@ -64,7 +67,8 @@ line_of-signs name value =
     ∙ signs-spelled (line_signs name value) (all-weaker IsWritten IsBare bare-written (line_signs name value) (line_signs-written name value))
 
 -- signs that begin a line are an entry's
-meaning-begun : (ss rest : List Sign) → AreBegun ss → meaning_behind_blanks (without_front is_blank (ss ++ rest)) ≡ meaning_of_sides (cut_at_equals (ss ++ rest))
+meaning-begun : (ss rest : List Sign) → AreBegun ss
+    → meaning_behind_blanks (without_front is_blank (ss ++ rest)) ≡ meaning_of_sides (cut_at_equals (ss ++ rest))
 meaning-begun [] rest h = absurd h
 meaning-begun (Covered b ∷ ss) rest h = refl
 meaning-begun (Plain b ∷ ss) rest h =
@@ -81,7 +85,8 @@ trimmed-begun [] begun last = absurd begun
 trimmed-begun (s ∷ ss) begun last = trimmed-blank_behind s ss (begun-not_blank s begun) last
 
 -- the sides of the first equals sign are the name's and the value's signs, each with a blank
-cut-line_signs : (name value : List ℕ) → cut_at_equals (line_signs name value) ≡ Some (name_signs name ++ Plain 32 ∷ [], Plain 32 ∷ value_signs value)
+cut-line_signs : (name value : List ℕ)
+    → cut_at_equals (line_signs name value) ≡ Some (name_signs name ++ Plain 32 ∷ [], Plain 32 ∷ value_signs value)
 cut-line_signs name value =
     ap cut_at_equals (sym (append_assoc (name_signs name) (Plain 32 ∷ []) (Plain 61 ∷ Plain 32 ∷ value_signs value)))
     ∙ cut_at_equals-at (name_signs name ++ Plain 32 ∷ []) (Plain 32 ∷ value_signs value) (all_append (λ s. is_equals s ≡ false) (name_signs name) (Plain 32 ∷ []) (name_signs-not_equals name) (refl, tt))

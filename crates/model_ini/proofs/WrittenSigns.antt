@@ -37,15 +37,18 @@ abbrev pub IsFilled : {A : Type 0} → List A → Type 0
 IsFilled [] = ⊥
 IsFilled (x ∷ xs) = Unit {0}
 
-all-mapped : {A B : Type 0} (P : B → Type 0) (f : A → B) → ((x : A) → P (f x)) → (xs : List A) → AllByRecursion P (map f xs)
+all-mapped : {A B : Type 0} (P : B → Type 0) (f : A → B) → ((x : A) → P (f x)) → (xs : List A)
+    → AllByRecursion P (map f xs)
 all-mapped P f each [] = tt
 all-mapped P f each (x ∷ xs) = (each x, all-mapped P f each xs)
 
-all-at_first : {A : Type 0} (P : A → Type 0) (f : A → A) → ((x : A) → P x → P (f x)) → (xs : List A) → AllByRecursion P xs → AllByRecursion P (at_first f xs)
+all-at_first : {A : Type 0} (P : A → Type 0) (f : A → A) → ((x : A) → P x → P (f x)) → (xs : List A)
+    → AllByRecursion P xs → AllByRecursion P (at_first f xs)
 all-at_first P f keeps [] h = tt
 all-at_first P f keeps (x ∷ xs) h = (keeps x h.0, h.1)
 
-all-at_last : {A : Type 0} (P : A → Type 0) (f : A → A) → ((x : A) → P x → P (f x)) → (xs : List A) → AllByRecursion P xs → AllByRecursion P (at_last f xs)
+all-at_last : {A : Type 0} (P : A → Type 0) (f : A → A) → ((x : A) → P x → P (f x)) → (xs : List A)
+    → AllByRecursion P xs → AllByRecursion P (at_last f xs)
 all-at_last P f keeps [] h = tt
 all-at_last P f keeps (x ∷ []) h = (keeps x h.0, tt)
 all-at_last P f keeps (x ∷ y ∷ xs) h = (h.0, all-at_last P f keeps (y ∷ xs) h.1)
@@ -61,14 +64,17 @@ written-value b =
     record { no_backslash = no_backslash; no_feed = no_feed; no_return = no_return; no_tab = no_tab }))))
 
 written-name : (b : ℕ) → IsWritten (name_sign b)
-written-name b = by_byte (λ t. IsWritten (cond t (Covered 61) (value_sign b))) b 61 (λ _. (eqb-false 61 10 refl, eqb-false 61 13 refl)) (λ _. written-value b)
+written-name b =
+    by_byte (λ t. IsWritten (cond t (Covered 61) (value_sign b))) b 61 (λ _. (eqb-false 61 10 refl, eqb-false 61 13 refl)) (λ _. written-value b)
 
 written-cover_blank : (s : Sign) → IsWritten s → IsWritten (cover_blank s)
-written-cover_blank (Plain b) h = by_byte (λ t. IsWritten (cond t (Covered 115) (Plain b))) b 32 (λ _. (eqb-false 115 10 refl, eqb-false 115 13 refl)) (λ _. h)
+written-cover_blank (Plain b) h =
+    by_byte (λ t. IsWritten (cond t (Covered 115) (Plain b))) b 32 (λ _. (eqb-false 115 10 refl, eqb-false 115 13 refl)) (λ _. h)
 written-cover_blank (Covered b) h = h
 
 written-cover_mark : (s : Sign) → IsWritten s → IsWritten (cover_mark s)
-written-cover_mark (Plain b) h = cond_both ((b == 35) || (b == 59) || (b == 91)) (Covered b) (Plain b) IsWritten (λ _. (h.no_feed, h.no_return)) (λ _. h)
+written-cover_mark (Plain b) h =
+    cond_both ((b == 35) || (b == 59) || (b == 91)) (Covered b) (Plain b) IsWritten (λ _. (h.no_feed, h.no_return)) (λ _. h)
 written-cover_mark (Covered b) h = h
 
 not_blank : (b : ℕ) → b ≢ 32 → b ≢ 9 → is_blank (Plain b) ≡ false
@@ -76,15 +82,18 @@ not_blank b no_space no_tab = or_from (b == 32) (b == 9) (ne_eqb b 32 no_space) 
 
 -- at an end no sign is blank, and it stays so
 covered-not_blank : (s : Sign) → IsWritten s → is_blank (cover_blank s) ≡ false
-covered-not_blank (Plain b) h = by_byte (λ t. is_blank (cond t (Covered 115) (Plain b)) ≡ false) b 32 (λ _. refl) (λ no_space. not_blank b no_space h.no_tab)
+covered-not_blank (Plain b) h =
+    by_byte (λ t. is_blank (cond t (Covered 115) (Plain b)) ≡ false) b 32 (λ _. refl) (λ no_space. not_blank b no_space h.no_tab)
 covered-not_blank (Covered b) h = refl
 
 cover_blank-not_blank : (s : Sign) → is_blank s ≡ false → is_blank (cover_blank s) ≡ false
-cover_blank-not_blank (Plain b) h = cond_both (b == 32) (Covered 115) (Plain b) (λ s. is_blank s ≡ false) (λ _. refl) (λ _. h)
+cover_blank-not_blank (Plain b) h =
+    cond_both (b == 32) (Covered 115) (Plain b) (λ s. is_blank s ≡ false) (λ _. refl) (λ _. h)
 cover_blank-not_blank (Covered b) h = refl
 
 cover_mark-not_blank : (s : Sign) → is_blank s ≡ false → is_blank (cover_mark s) ≡ false
-cover_mark-not_blank (Plain b) h = cond_both ((b == 35) || (b == 59) || (b == 91)) (Covered b) (Plain b) (λ s. is_blank s ≡ false) (λ _. refl) (λ _. h)
+cover_mark-not_blank (Plain b) h =
+    cond_both ((b == 35) || (b == 59) || (b == 91)) (Covered b) (Plain b) (λ s. is_blank s ≡ false) (λ _. refl) (λ _. h)
 cover_mark-not_blank (Covered b) h = refl
 
 -- in a name no sign is a bare equals sign
@@ -96,14 +105,17 @@ value_sign-not_equals b h =
     cond_both (b == 9) (Covered 116) (Plain b) (λ s. is_equals s ≡ false) (λ _. refl) (λ _. ne_eqb b 61 h))))
 
 name_sign-not_equals : (b : ℕ) → is_equals (name_sign b) ≡ false
-name_sign-not_equals b = by_byte (λ t. is_equals (cond t (Covered 61) (value_sign b)) ≡ false) b 61 (λ _. refl) (λ other. value_sign-not_equals b other)
+name_sign-not_equals b =
+    by_byte (λ t. is_equals (cond t (Covered 61) (value_sign b)) ≡ false) b 61 (λ _. refl) (λ other. value_sign-not_equals b other)
 
 cover_blank-not_equals : (s : Sign) → is_equals s ≡ false → is_equals (cover_blank s) ≡ false
-cover_blank-not_equals (Plain b) h = cond_both (b == 32) (Covered 115) (Plain b) (λ s. is_equals s ≡ false) (λ _. refl) (λ _. h)
+cover_blank-not_equals (Plain b) h =
+    cond_both (b == 32) (Covered 115) (Plain b) (λ s. is_equals s ≡ false) (λ _. refl) (λ _. h)
 cover_blank-not_equals (Covered b) h = refl
 
 cover_mark-not_equals : (s : Sign) → is_equals s ≡ false → is_equals (cover_mark s) ≡ false
-cover_mark-not_equals (Plain b) h = cond_both ((b == 35) || (b == 59) || (b == 91)) (Covered b) (Plain b) (λ s. is_equals s ≡ false) (λ _. refl) (λ _. h)
+cover_mark-not_equals (Plain b) h =
+    cond_both ((b == 35) || (b == 59) || (b == 91)) (Covered b) (Plain b) (λ s. is_equals s ≡ false) (λ _. refl) (λ _. h)
 cover_mark-not_equals (Covered b) h = refl
 
 -- the first sign of a name may begin a line
@@ -119,22 +131,29 @@ begins (Covered b) h = tt
 -- ---- the signs of a value and of a name
 
 value_body : (text : List ℕ) → AllByRecursion IsWritten (at_last cover_blank (map value_sign text))
-value_body text = all-at_last IsWritten cover_blank written-cover_blank (map value_sign text) (all-mapped IsWritten value_sign written-value text)
+value_body text =
+    all-at_last IsWritten cover_blank written-cover_blank (map value_sign text) (all-mapped IsWritten value_sign written-value text)
 
 name_body : (text : List ℕ) → AllByRecursion IsWritten (at_last cover_blank (map name_sign text))
-name_body text = all-at_last IsWritten cover_blank written-cover_blank (map name_sign text) (all-mapped IsWritten name_sign written-name text)
+name_body text =
+    all-at_last IsWritten cover_blank written-cover_blank (map name_sign text) (all-mapped IsWritten name_sign written-name text)
 
 pub value_signs-written : (text : List ℕ) → AllByRecursion IsWritten (value_signs text)
-value_signs-written text = all-at_first IsWritten cover_blank written-cover_blank (at_last cover_blank (map value_sign text)) (value_body text)
+value_signs-written text =
+    all-at_first IsWritten cover_blank written-cover_blank (at_last cover_blank (map value_sign text)) (value_body text)
 
-name_opened : (text : List ℕ) → AllByRecursion IsWritten (at_first cover_blank (at_last cover_blank (map name_sign text)))
-name_opened text = all-at_first IsWritten cover_blank written-cover_blank (at_last cover_blank (map name_sign text)) (name_body text)
+name_opened : (text : List ℕ)
+    → AllByRecursion IsWritten (at_first cover_blank (at_last cover_blank (map name_sign text)))
+name_opened text =
+    all-at_first IsWritten cover_blank written-cover_blank (at_last cover_blank (map name_sign text)) (name_body text)
 
 pub name_signs-written : (text : List ℕ) → AllByRecursion IsWritten (name_signs text)
-name_signs-written text = all-at_first IsWritten cover_mark written-cover_mark (at_first cover_blank (at_last cover_blank (map name_sign text))) (name_opened text)
+name_signs-written text =
+    all-at_first IsWritten cover_mark written-cover_mark (at_first cover_blank (at_last cover_blank (map name_sign text))) (name_opened text)
 
 pub value_signs-first : (text : List ℕ) → FirstFails is_blank (value_signs text)
-value_signs-first text = FirstFails-at_first is_blank IsWritten cover_blank covered-not_blank (at_last cover_blank (map value_sign text)) (value_body text)
+value_signs-first text =
+    FirstFails-at_first is_blank IsWritten cover_blank covered-not_blank (at_last cover_blank (map value_sign text)) (value_body text)
 
 pub value_signs-last : (text : List ℕ) → LastFails is_blank (value_signs text)
 value_signs-last text =
@@ -158,13 +177,15 @@ at_last-filled : {A : Type 0} (f : A → A) (x : A) (xs : List A) → IsFilled (
 at_last-filled f x [] = tt
 at_last-filled f x (y ∷ xs) = tt
 
-begun : (ss : List Sign) → IsFilled ss → AllByRecursion IsWritten ss → AreBegun (at_first cover_mark (at_first cover_blank ss))
+begun : (ss : List Sign) → IsFilled ss → AllByRecursion IsWritten ss
+    → AreBegun (at_first cover_mark (at_first cover_blank ss))
 begun [] filled h = filled
 begun (s ∷ ss) filled h = begins s h.0
 
 pub name_signs-begun : (text : List ℕ) → IsFilled text → AreBegun (name_signs text)
 name_signs-begun [] filled = absurd filled
-name_signs-begun (b ∷ text) filled = begun (at_last cover_blank (map name_sign (b ∷ text))) (at_last-filled cover_blank (name_sign b) (map name_sign text)) (name_body (b ∷ text))
+name_signs-begun (b ∷ text) filled =
+    begun (at_last cover_blank (map name_sign (b ∷ text))) (at_last-filled cover_blank (name_sign b) (map name_sign text)) (name_body (b ∷ text))
 
 -- a written sign is read back
 pub bare-written : (s : Sign) → IsWritten s → IsBare s

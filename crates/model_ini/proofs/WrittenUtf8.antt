@@ -20,7 +20,8 @@ use Rattle.model_ini.proofs.WrittenLines.{text_of-value_signs, text_of-name_sign
 abbrev AreAscii : ℕ → ℕ → Type 0
 AreAscii c e = (c < 128) × (e < 128)
 
-by_letter : (c letter byte e : ℕ) → letter < 128 → byte < 128 → (c == letter) ≡ true → ◌≡◌ {A = Option ℕ} (Some byte) (Some e) → AreAscii c e
+by_letter : (c letter byte e : ℕ) → letter < 128 → byte < 128 → (c == letter) ≡ true
+    → ◌≡◌ {A = Option ℕ} (Some byte) (Some e) → AreAscii c e
 by_letter c letter byte e p q is same =
     let at : c ≡ letter = eqb-true c letter is in
     let stands : byte ≡ e = some_is byte e same in
@@ -32,7 +33,8 @@ by_mark c mark e p is same =
     let stands : c ≡ e = some_is c e same in
     (omega arith, omega arith)
 
-marks : (c e : ℕ) → ((c == 61) || (c == 35) || (c == 59) || (c == 91)) ≡ true → ◌≡◌ {A = Option ℕ} (Some c) (Some e) → AreAscii c e
+marks : (c e : ℕ) → ((c == 61) || (c == 35) || (c == 59) || (c == 91)) ≡ true → ◌≡◌ {A = Option ℕ} (Some c) (Some e)
+    → AreAscii c e
 marks c e is same =
     elim (or_cases _ (c == 91) is) [
       | inl first ↦ elim (or_cases _ (c == 59) first) [
@@ -52,7 +54,8 @@ escape-ascii c e h =
     let mark = cond_some ((c == 61) || (c == 35) || (c == 59) || (c == 91)) (Some c) e h in marks c e mark.0 mark.1)))))
 
 -- what a sign that is not the last stands for, and what is left
-split : (s : Sign) (ss : List Sign) (text : List ℕ) → text_of (s ∷ ss) ≡ Some text → (b : ℕ) × (byte_of s ≡ Some b) × (rest : List ℕ) × (text_of ss ≡ Some rest) × (b ∷ rest ≡ text)
+split : (s : Sign) (ss : List Sign) (text : List ℕ) → text_of (s ∷ ss) ≡ Some text
+    → (b : ℕ) × (byte_of s ≡ Some b) × (rest : List ℕ) × (text_of ss ≡ Some rest) × (b ∷ rest ≡ text)
 split s ss text h =
     let first = from_and_then _ (byte_of s) text h in
     let rest = from_map (λ t. first.0 ∷ t) (text_of ss) text first.2 in
@@ -64,8 +67,10 @@ bare b c h = branch_taken (b == 92) None (Some b) (Some c) h (λ is none. absurd
 
 -- signs are spelled in UTF-8 where the text that they stand for is, behind any bytes: those carry the bytes of a letter
 -- that is spelled half
-utf8-signs : (ss : List Sign) (front text : List ℕ) → text_of ss ≡ Some text → IsUtf8 (front ++ text) → IsUtf8 (front ++ flat_map spelled_sign ss)
-utf8-signs [] front text h utf8 = let none : [] ≡ text = some_is [] text h in subst (λ (t : List ℕ). IsUtf8 (front ++ t)) (sym none) utf8
+utf8-signs : (ss : List Sign) (front text : List ℕ) → text_of ss ≡ Some text → IsUtf8 (front ++ text)
+    → IsUtf8 (front ++ flat_map spelled_sign ss)
+utf8-signs [] front text h utf8 =
+    let none : [] ≡ text = some_is [] text h in subst (λ (t : List ℕ). IsUtf8 (front ++ t)) (sym none) utf8
 utf8-signs (Plain b ∷ ss) front text h utf8 =
     let at = split (Plain b) ss text h in
     let byte : at.0 ≡ b = bare b at.0 at.1 in

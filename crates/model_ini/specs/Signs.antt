@@ -55,7 +55,8 @@ without_front passes (x ∷ xs) = if passes x then without_front passes xs else 
 
 abbrev pub without_back : {A : Type 0} → (A → Bool) → List A → List A
 without_back passes [] = []
-without_back passes (x ∷ xs) = let rest = without_back passes xs in if passes x && (length rest == 0) then [] else x ∷ rest
+without_back passes (x ∷ xs) =
+    let rest = without_back passes xs in if passes x && (length rest == 0) then [] else x ∷ rest
 
 -- signs without the blanks and tabs at both ends
 abbrev pub trimmed : List Sign → List Sign
@@ -64,4 +65,5 @@ trimmed side = without_back is_blank (without_front is_blank side)
 -- signs cut at their first equals sign, if there is one
 abbrev pub cut_at_equals : List Sign → Option (List Sign × List Sign)
 cut_at_equals [] = None
-cut_at_equals (sign ∷ rest) = if is_equals sign then Some ([], rest) else option_map (λ sides. (sign ∷ sides.0, sides.1)) (cut_at_equals rest)
+cut_at_equals (sign ∷ rest) =
+    if is_equals sign then Some ([], rest) else option_map (λ sides. (sign ∷ sides.0, sides.1)) (cut_at_equals rest)

@@ -51,7 +51,8 @@ name_signs text = at_first cover_mark (at_first cover_blank (at_last cover_blank
 
 -- the line of a relative name and a value
 abbrev pub line_of : List ℕ → List ℕ → List ℕ
-line_of name value = flat_map spelled_sign (name_signs name) ++ (codes " = " ++ flat_map spelled_sign (value_signs value))
+line_of name value =
+    flat_map spelled_sign (name_signs name) ++ (codes " = " ++ flat_map spelled_sign (value_signs value))
 
 -- the text of a map: the lines of its keys in name order
 abbrev pub text : KeyMap → List ℕ
@@ -59,4 +60,11 @@ text keys = ended (map (λ key. line_of (relative_text key.0) key.1.value) (fini
 
 -- the format, which goes by keys
 abbrev pub ini : Format
-ini = record { Reads = Reads; IsBadAt = IsBadAt; text = text; Holds = λ _ name entry. IsIniKey name entry; is_keywise = true }
+ini =
+    record {
+      Reads = Reads;
+      IsBadAt = IsBadAt;
+      text = text;
+      Holds = λ _ name entry. IsIniKey name entry;
+      is_keywise = true;
+    }

@@ -37,8 +37,10 @@ pub fn blanks_at_the_ends_are_dropped()
 
 /// Each escape, on either side.
 pub fn escapes_stand_for_their_bytes()
-    ensures value { meaning (codes "a = \\\\\\n\\r\\t\\s\\=\\#\\;\\[") ≡ Pair (codes "a") (92 ∷ 10 ∷ 13 ∷ 9 ∷ 32 ∷ 61 ∷ 35 ∷ 59 ∷ 91 ∷ []) }
-    ensures name { meaning (codes "\\\\\\n\\r\\t\\s\\=\\#\\;\\[ = a") ≡ Pair (92 ∷ 10 ∷ 13 ∷ 9 ∷ 32 ∷ 61 ∷ 35 ∷ 59 ∷ 91 ∷ []) (codes "a") }
+    ensures value { meaning (codes "a = \\\\\\n\\r\\t\\s\\=\\#\\;\\[")
+        ≡ Pair (codes "a") (92 ∷ 10 ∷ 13 ∷ 9 ∷ 32 ∷ 61 ∷ 35 ∷ 59 ∷ 91 ∷ []) }
+    ensures name { meaning (codes "\\\\\\n\\r\\t\\s\\=\\#\\;\\[ = a")
+        ≡ Pair (92 ∷ 10 ∷ 13 ∷ 9 ∷ 32 ∷ 61 ∷ 35 ∷ 59 ∷ 91 ∷ []) (codes "a") }
     ensures mark { meaning (codes "\\#a = b") ≡ Pair (codes "#a") (codes "b") }
 {}
 

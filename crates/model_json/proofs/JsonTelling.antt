@@ -28,7 +28,8 @@ use Rattle.model_json.proofs.KeyLeaves.{each-entry}
 
 -- ---- the limits of a file
 
-all-unmap : {A B : Type 0} (P : B → Type 0) (f : A → B) (xs : List A) → AllByRecursion P (map f xs) → AllByRecursion (λ x. P (f x)) xs
+all-unmap : {A B : Type 0} (P : B → Type 0) (f : A → B) (xs : List A) → AllByRecursion P (map f xs)
+    → AllByRecursion (λ x. P (f x)) xs
 all-unmap P f [] h = tt
 all-unmap P f (x ∷ xs) h = (h.0, all-unmap P f xs h.1)
 
@@ -36,19 +37,22 @@ all-unmap P f (x ∷ xs) h = (h.0, all-unmap P f xs h.1)
 abbrev pub IsLimitedLeaf : Leaf → Type 0
 IsLimitedLeaf leaf = IsName (key_of leaf).0 × IsValue leaf.1
 
-no-meta : (name text : List ℕ) → finite.get (finite.empty {X = List ℕ} {R = text_cmp}) name ≡ Some text → IsLimitedMeta name text
+no-meta : (name text : List ℕ) → finite.get (finite.empty {X = List ℕ} {R = text_cmp}) name ≡ Some text
+    → IsLimitedMeta name text
 no-meta name text found = absurd (none_is_no_some text (sym (finite.get-empty text_cmp name) ∙ found))
 
 limited-key : (leaf : Leaf) → IsLimitedLeaf leaf → IsLimitedKey (key_of leaf).0 (key_of leaf).1
 limited-key leaf is = record { is_name = is.0; cascading = refl; is_value = is.1; each_meta = no-meta }
 
-pub limited-leaves : (found : List Leaf) (keys : KeyMap) → finite.entries keys ≡ map key_of found → IsLimited keys → AllByRecursion IsLimitedLeaf found
+pub limited-leaves : (found : List Leaf) (keys : KeyMap) → finite.entries keys ≡ map key_of found → IsLimited keys
+    → AllByRecursion IsLimitedLeaf found
 limited-leaves found keys all limited =
     let P : Name × Entry → Type 0 = λ key. IsLimitedKey key.0 key.1 in
     all-weaker (λ (leaf : Leaf). P (key_of leaf)) IsLimitedLeaf (λ leaf is. (is.is_name, is.is_value)) found
     (all-unmap P key_of found (subst (AllByRecursion P) all (each-entry IsLimitedKey keys limited.each)))
 
-pub limited-keys : (found : List Leaf) (keys : KeyMap) → finite.entries keys ≡ map key_of found → AllByRecursion IsLimitedLeaf found → weight keys ≤ heaviest_map → IsLimited keys
+pub limited-keys : (found : List Leaf) (keys : KeyMap) → finite.entries keys ≡ map key_of found
+    → AllByRecursion IsLimitedLeaf found → weight keys ≤ heaviest_map → IsLimited keys
 limited-keys found keys all each light =
     let P : Name × Entry → Type 0 = λ key. IsLimitedKey key.0 key.1 in
     record {
@@ -78,23 +82,27 @@ HasMap bytes = (keys : KeyMap) × ReadsObject bytes keys
 pub object-is : (ms other : Members) → object ms ≡ object other → ms ≡ other
 object-is ms other e = cc
 
-found-once : (bytes : List ℕ) (keys : KeyMap) (ms : Members) (found : List Leaf) → read bytes ≡ Some (object ms) → leaves (object ms) ≡ Some found → (r : ReadsObject bytes keys) → r.found ≡ found
+found-once : (bytes : List ℕ) (keys : KeyMap) (ms : Members) (found : List Leaf) → read bytes ≡ Some (object ms)
+    → leaves (object ms) ≡ Some found → (r : ReadsObject bytes keys) → r.found ≡ found
 found-once bytes keys ms found is are r =
     let same : r.members ≡ ms = object-is r.members ms (some_is (object r.members) (object ms) (sym r.is_object ∙ is)) in
     some_is r.found found (sym r.are_leaves ∙ ap (λ m. leaves (object m)) same ∙ are)
 
-pub readings-once : (bytes : List ℕ) (keys other : KeyMap) → ReadsObject bytes keys → ReadsObject bytes other → keys ≡ other
+pub readings-once : (bytes : List ℕ) (keys other : KeyMap) → ReadsObject bytes keys → ReadsObject bytes other
+    → keys ≡ other
 readings-once bytes keys other p q =
     finite.same_entries_map keys other (p.all ∙ ap (map key_of) (found-once bytes keys q.members q.found q.is_object q.are_leaves p) ∙ sym q.all)
 
-leaves-told : (bytes : List ℕ) (ms : Members) (found : List Leaf) → IsUtf8 bytes → read bytes ≡ Some (object ms) → leaves (object ms) ≡ Some found → AreNamed [] (object ms) → IsTold (HasMap bytes)
+leaves-told : (bytes : List ℕ) (ms : Members) (found : List Leaf) → IsUtf8 bytes → read bytes ≡ Some (object ms)
+    → leaves (object ms) ≡ Some found → AreNamed [] (object ms) → IsTold (HasMap bytes)
 leaves-told bytes ms found utf8 is are named = by (is_sorted name_cmp (map key_of found)) refl
   where
     once : (r : HasMap bytes) → r.1.found ≡ found
     once r = found-once bytes r.0 ms found is are r.1
 
     by : (b : Bool) → is_sorted name_cmp (map key_of found) ≡ b → IsTold (HasMap bytes)
-    by false e = inr (λ r. subst T (ap (is_sorted name_cmp) (r.1.all ∙ ap (map key_of) (once r)) ∙ e) (finite.entries_sorted r.0))
+    by false e =
+        inr (λ r. subst T (ap (is_sorted name_cmp) (r.1.all ∙ ap (map key_of) (once r)) ∙ e) (finite.entries_sorted r.0))
     by true e =
         let keys : KeyMap = finite.from_sorted (map key_of found) in
         let all : finite.entries keys ≡ map key_of found = finite.entries-from_sorted name_cmp (map key_of found) (true_is (is_sorted name_cmp (map key_of found)) e) in
@@ -116,11 +124,13 @@ mutual
 
   items-named-told : (before : List Part) (index : ℕ) (ds : Items) → IsTold (ItemsNamed before index ds)
   items-named-told before index no_items = inl tt
-  items-named-told before index (item d ds) = three-told (name-told (name_at (before ++ array_part index ∷ []))) (value-named-told (before ++ array_part index ∷ []) d) (items-named-told before (index + 1) ds)
+  items-named-told before index (item d ds) =
+      three-told (name-told (name_at (before ++ array_part index ∷ []))) (value-named-told (before ++ array_part index ∷ []) d) (items-named-told before (index + 1) ds)
 
   members-named-told : (before : List Part) (ms : Members) → IsTold (MembersNamed before ms)
   members-named-told before no_members = inl tt
-  members-named-told before (member name d ms) = three-told (name-told (name_at (before ++ name ∷ []))) (value-named-told (before ++ name ∷ []) d) (members-named-told before ms)
+  members-named-told before (member name d ms) =
+      three-told (name-told (name_at (before ++ name ∷ []))) (value-named-told (before ++ name ∷ []) d) (members-named-told before ms)
 
 object-told : (bytes : List ℕ) (ms : Members) → IsUtf8 bytes → read bytes ≡ Some (object ms) → IsTold (HasMap bytes)
 object-told bytes ms utf8 is = by (leaves (object ms)) refl
@@ -135,11 +145,16 @@ object-told bytes ms utf8 is = by (leaves (object ms)) refl
         none_is_no_some r.1.found (sym e ∙ ap leaves (sym same) ∙ r.1.are_leaves))
 
 value-told-by : (bytes : List ℕ) (d : Data) → IsUtf8 bytes → read bytes ≡ Some d → IsTold (HasMap bytes)
-value-told-by bytes null utf8 is = inr (λ r. let clash = some_is null (object r.1.members) (sym is ∙ r.1.is_object) in absurd cc)
-value-told-by bytes (boolean b) utf8 is = inr (λ r. let clash = some_is (boolean b) (object r.1.members) (sym is ∙ r.1.is_object) in absurd cc)
-value-told-by bytes (number n) utf8 is = inr (λ r. let clash = some_is (number n) (object r.1.members) (sym is ∙ r.1.is_object) in absurd cc)
-value-told-by bytes (string s) utf8 is = inr (λ r. let clash = some_is (string s) (object r.1.members) (sym is ∙ r.1.is_object) in absurd cc)
-value-told-by bytes (array ds) utf8 is = inr (λ r. let clash = some_is (array ds) (object r.1.members) (sym is ∙ r.1.is_object) in absurd cc)
+value-told-by bytes null utf8 is =
+    inr (λ r. let clash = some_is null (object r.1.members) (sym is ∙ r.1.is_object) in absurd cc)
+value-told-by bytes (boolean b) utf8 is =
+    inr (λ r. let clash = some_is (boolean b) (object r.1.members) (sym is ∙ r.1.is_object) in absurd cc)
+value-told-by bytes (number n) utf8 is =
+    inr (λ r. let clash = some_is (number n) (object r.1.members) (sym is ∙ r.1.is_object) in absurd cc)
+value-told-by bytes (string s) utf8 is =
+    inr (λ r. let clash = some_is (string s) (object r.1.members) (sym is ∙ r.1.is_object) in absurd cc)
+value-told-by bytes (array ds) utf8 is =
+    inr (λ r. let clash = some_is (array ds) (object r.1.members) (sym is ∙ r.1.is_object) in absurd cc)
 value-told-by bytes (object ms) utf8 is = object-told bytes ms utf8 is
 
 pub map-told : (bytes : List ℕ) → IsTold (HasMap bytes)
@@ -176,7 +191,8 @@ text-told (object ms) = inr (λ h. h)
 
 fits-told : (parts : List Part) (d : Data) → IsTold (Fits parts d)
 fits-told [] d = text-told d
-fits-told (part ∷ parts) d = both-told (either-told (names-told (members_in d)) (items-told 0 (members_in d))) (fits-told parts (child part d))
+fits-told (part ∷ parts) d =
+    both-told (either-told (names-told (members_in d)) (items-told 0 (members_in d))) (fits-told parts (child part d))
 
 member-told : (b : Bool) → IsTold (b ≡ false)
 member-told false = inl refl

@@ -33,7 +33,8 @@ use Rattle.model_json.proofs.JsonTelling.{readings-once, map-told, json_key-told
 
 -- ---- what reads can be stored
 
-few-leaves : (keys : KeyMap) (found : List Leaf) → finite.entries keys ≡ map key_of found → IsLimited keys → length found ≤ last_index
+few-leaves : (keys : KeyMap) (found : List Leaf) → finite.entries keys ≡ map key_of found → IsLimited keys
+    → length found ≤ last_index
 few-leaves keys found all limited =
     let heavy = many-weigh (finite.entries keys) in
     let light = limited.light in
@@ -47,16 +48,23 @@ record IsKeptLeaf (leaf : Leaf) (whole : Data) : Type 0 where
   few : length leaf.0 ≤ most_parts
   fits : Fits leaf.0 whole
 
-kept-leaves : (found : List Leaf) (whole : Data) → AllByRecursion (λ (leaf : Leaf). Goes leaf.0 (members_in whole)) found → AllByRecursion (λ (leaf : Leaf). begins_as_item leaf.0 ≡ false) found
-    → AllByRecursion (λ (leaf : Leaf). length leaf.0 ≤ most_parts) found → AllByRecursion (λ (leaf : Leaf). Fits leaf.0 whole) found → AllByRecursion (λ (leaf : Leaf). IsKeptLeaf leaf whole) found
+kept-leaves : (found : List Leaf) (whole : Data)
+    → AllByRecursion (λ (leaf : Leaf). Goes leaf.0 (members_in whole)) found
+    → AllByRecursion (λ (leaf : Leaf). begins_as_item leaf.0 ≡ false) found
+    → AllByRecursion (λ (leaf : Leaf). length leaf.0 ≤ most_parts) found
+    → AllByRecursion (λ (leaf : Leaf). Fits leaf.0 whole) found
+    → AllByRecursion (λ (leaf : Leaf). IsKeptLeaf leaf whole) found
 kept-leaves [] whole go member few fits = tt
-kept-leaves (leaf ∷ found) whole go named few fits = (record { go = go.0; is_member = named.0; few = few.0; fits = fits.0 }, kept-leaves found whole go.1 named.1 few.1 fits.1)
+kept-leaves (leaf ∷ found) whole go named few fits =
+    (record { go = go.0; is_member = named.0; few = few.0; fits = fits.0 }, kept-leaves found whole go.1 named.1 few.1 fits.1)
 
 goes-on : (leaf : Leaf) (whole : Data) → Goes leaf.0 (members_in whole) → leaf.0 ≡ [] → ⊥
 goes-on ([], text) whole go none = go
 goes-on (part ∷ parts, text) whole go none = absurd cc
 
-kept-keys : (keys : KeyMap) (whole : Data) → whole ≡ tree_of keys → (found : List Leaf) → AllByRecursion (λ (leaf : Leaf). IsKeptLeaf leaf whole) found → AllByRecursion (λ (key : Name × Entry). IsJsonKey keys key.0 key.1) (map key_of found)
+kept-keys : (keys : KeyMap) (whole : Data) → whole ≡ tree_of keys → (found : List Leaf)
+    → AllByRecursion (λ (leaf : Leaf). IsKeptLeaf leaf whole) found
+    → AllByRecursion (λ (key : Name × Entry). IsJsonKey keys key.0 key.1) (map key_of found)
 kept-keys keys whole is [] kept = tt
 kept-keys keys whole is (leaf ∷ found) kept = (
   record { no_meta = refl; some_part = goes-on leaf whole kept.0.go; few_parts = kept.0.few; is_member = kept.0.is_member; fits = subst (Fits leaf.0) is kept.0.fits },
@@ -78,7 +86,8 @@ reads-storable bytes keys (inl none) = subst IsStorable (sym none.1) (EachHas-no
 reads-storable bytes keys (inr r) = object-storable bytes keys r
 
 pub no-limits : IsLimited no_keys
-no-limits = record { each = λ name entry found. absurd (found_nowhere name entry found); light = omega (arith, weight-no_keys) }
+no-limits =
+    record { each = λ name entry found. absurd (found_nowhere name entry found); light = omega (arith, weight-no_keys) }
 
 reads-limited : (bytes : List ℕ) (keys : KeyMap) → Reads bytes keys → IsLimited keys
 reads-limited bytes keys (inl none) = subst IsLimited (sym none.1) no-limits

@@ -28,7 +28,8 @@ less-behind (x ∷ front) xs ys less = less-later x (front ++ xs) (front ++ ys) 
 one-digit : (index : ℕ) → index < 10 → body index ≡ (48 + index) ∷ []
 one-digit index small = rw (decimal_digit index small)
 
-more-digits : (index : ℕ) → 10 ≤ index → index < 2 ^ 64 → body index ≡ 95 ∷ (body (index / 10) ++ (48 + index % 10) ∷ [])
+more-digits : (index : ℕ) → 10 ≤ index → index < 2 ^ 64
+    → body index ≡ 95 ∷ (body (index / 10) ++ (48 + index % 10) ∷ [])
 more-digits index large small =
     let step = decimal_step index large small in
     let front = decimal (index / 10) in
@@ -36,9 +37,11 @@ more-digits index large small =
     let some : 0 < length front = decimal_nonempty (index / 10) (omega (arith, small)) in
     let len : length (decimal index) ≡ length front + 1 = ap length step ∙ length-append front last in
     let count : length (decimal index) - 1 ≡ suc (length front - 1) = omega (arith, len, some) in
-    ap₂ (λ n (ds : List ℕ). replicate n 95 ++ ds) count step ∙ ap (λ l. 95 ∷ l) (sym (append_assoc (replicate (length front - 1) 95) front last))
+    ap₂ (λ n (ds : List ℕ). replicate n 95 ++ ds) count step
+    ∙ ap (λ l. 95 ∷ l) (sym (append_assoc (replicate (length front - 1) 95) front last))
 
-less-body : (fuel i j : ℕ) (zs ws : List ℕ) → i ≤ fuel → i < j → j < 2 ^ 64 → text_cmp (body i ++ zs) (body j ++ ws) ≡ Less
+less-body : (fuel i j : ℕ) (zs ws : List ℕ) → i ≤ fuel → i < j → j < 2 ^ 64
+    → text_cmp (body i ++ zs) (body j ++ ws) ≡ Less
 less-body zero i j zs ws enough less small =
     elim (cases_lt j 10) [
       | inl short ↦ ap₂ (λ a b. text_cmp (a ++ zs) (b ++ ws)) (one-digit i (omega arith)) (one-digit j short) ∙ less-here (48 + i) (48 + j) zs ws (omega arith)
@@ -62,7 +65,8 @@ less-body (suc fuel) i j zs ws enough less small =
             | inl front ↦ less-body fuel (i / 10) (j / 10) (x ∷ zs) (y ∷ ws) (omega arith) front (omega arith)
             | inr behind ↦
                 let same : j / 10 ≡ i / 10 = omega arith in
-                ap (λ n. text_cmp (body (i / 10) ++ x ∷ zs) (body n ++ y ∷ ws)) same ∙ less-behind (body (i / 10)) (x ∷ zs) (y ∷ ws) (less-here x y zs ws (omega arith))
+                ap (λ n. text_cmp (body (i / 10) ++ x ∷ zs) (body n ++ y ∷ ws)) same
+                ∙ less-behind (body (i / 10)) (x ∷ zs) (y ∷ ws) (less-here x y zs ws (omega arith))
           ])
     ]
 

@@ -22,7 +22,9 @@ use Rattle.model_json.proofs.ReadTrees.{gives, gives-member, some-leaves, shorte
 
 -- ---- one part's leaves before those of later parts
 
-before-within : (part : Part) (parts : List Part) (found : List Leaf) → AllByRecursion (λ (later : Leaf). path_cmp parts later.0 ≡ Less) found → AllByRecursion (λ (later : Leaf). path_cmp (part ∷ parts) later.0 ≡ Less) (within part found)
+before-within : (part : Part) (parts : List Part) (found : List Leaf)
+    → AllByRecursion (λ (later : Leaf). path_cmp parts later.0 ≡ Less) found
+    → AllByRecursion (λ (later : Leaf). path_cmp (part ∷ parts) later.0 ≡ Less) (within part found)
 before-within part parts [] h = tt
 before-within part parts (leaf ∷ found) h = (same_first part parts leaf.0 ∙ h.0, before-within part parts found h.1)
 
@@ -30,11 +32,13 @@ before-later : (part : Part) (parts later : List Part) → FirstIsLater part lat
 before-later part parts [] h = absurd h
 before-later part parts (first ∷ later) h = ap (λ o. ordering_then o (path_cmp parts later)) h
 
-before-more : (part : Part) (parts : List Part) (found : List Leaf) → BeginLater part found → AllByRecursion (λ (later : Leaf). path_cmp (part ∷ parts) later.0 ≡ Less) found
+before-more : (part : Part) (parts : List Part) (found : List Leaf) → BeginLater part found
+    → AllByRecursion (λ (later : Leaf). path_cmp (part ∷ parts) later.0 ≡ Less) found
 before-more part parts [] h = tt
 before-more part parts (leaf ∷ found) h = (before-later part parts leaf.0 h.0, before-more part parts found h.1)
 
-ascend-join : (part : Part) (here more : List Leaf) → Ascend here → BeginLater part more → Ascend more → Ascend (within part here ++ more)
+ascend-join : (part : Part) (here more : List Leaf) → Ascend here → BeginLater part more → Ascend more
+    → Ascend (within part here ++ more)
 ascend-join part [] more ascend later rest = rest
 ascend-join part (leaf ∷ here) more ascend later rest = (
   all_append (λ (other : Leaf). path_cmp (part ∷ leaf.0) other.0 ≡ Less) (within part here) more (before-within part leaf.0 here ascend.0) (before-more part leaf.0 more later),
@@ -43,7 +47,8 @@ ascend-join part (leaf ∷ here) more ascend later rest = (
 
 -- ---- the leaves of elements begin with later parts
 
-items-later : (index later : ℕ) (ds : Items) (found : List Leaf) → items_leaves later ds ≡ Some found → index < later → later + length found ≤ last_index → BeginLater (array_part index) found
+items-later : (index later : ℕ) (ds : Items) (found : List Leaf) → items_leaves later ds ≡ Some found → index < later
+    → later + length found ≤ last_index → BeginLater (array_part index) found
 items-later index later no_items found e less few = subst (BeginLater (array_part index)) (some_is [] found e) tt
 items-later index later (item d ds) found e less few =
     let g = gives (array_part later) (option_and_then if_some (leaves d)) (items_leaves (later + 1) ds) found e in
@@ -55,15 +60,18 @@ items-later index later (item d ds) found e less few =
     (items-later index (later + 1) ds g.more g.of_later (omega arith) left))
 
 mutual
-  pub value-ascends : (d : Data) (found : List Leaf) → leaves d ≡ Some found → IsRising d → length found ≤ last_index → Ascend found
+  pub value-ascends : (d : Data) (found : List Leaf) → leaves d ≡ Some found → IsRising d → length found ≤ last_index
+      → Ascend found
   value-ascends null found e rises few = absurd (none_is_no_some found e)
   value-ascends (boolean b) found e rises few = subst Ascend (some_is (one_leaf (boolean_text b)) found e) (tt, tt)
-  value-ascends (number n) found e rises few = let f = from_map one_leaf (integer_text n) found e in subst Ascend f.2 (tt, tt)
+  value-ascends (number n) found e rises few =
+      let f = from_map one_leaf (integer_text n) found e in subst Ascend f.2 (tt, tt)
   value-ascends (string text) found e rises few = subst Ascend (some_is (one_leaf text) found e) (tt, tt)
   value-ascends (array ds) found e rises few = items-ascend 0 ds found e rises (omega arith)
   value-ascends (object ms) found e rises few = members-ascend ms found e rises few
 
-  members-ascend : (ms : Members) (found : List Leaf) → members_leaves ms ≡ Some found → HaveRising ms → length found ≤ last_index → Ascend found
+  members-ascend : (ms : Members) (found : List Leaf) → members_leaves ms ≡ Some found → HaveRising ms
+      → length found ≤ last_index → Ascend found
   members-ascend no_members found e rises few = subst Ascend (some_is [] found e) tt
   members-ascend (member name d ms) found e rises few =
       let g = (gives-member (is_array_like name) name (leaves d) (members_leaves ms) found e).1 in
@@ -72,7 +80,8 @@ mutual
       (members-later name ms g.more g.of_later rises.0)
       (members-ascend ms g.more g.of_later rises.2 (fewer-more name g.here g.more found last_index g.all few)))
 
-  items-ascend : (index : ℕ) (ds : Items) (found : List Leaf) → items_leaves index ds ≡ Some found → AreRising ds → index + length found ≤ last_index → Ascend found
+  items-ascend : (index : ℕ) (ds : Items) (found : List Leaf) → items_leaves index ds ≡ Some found → AreRising ds
+      → index + length found ≤ last_index → Ascend found
   items-ascend index no_items found e rises few = subst Ascend (some_is [] found e) tt
   items-ascend index (item d ds) found e rises few =
       let g = gives (array_part index) (option_and_then if_some (leaves d)) (items_leaves (index + 1) ds) found e in
@@ -86,10 +95,13 @@ mutual
 
 -- ---- so do their keys
 
-below-keys : (leaf : Leaf) (found : List Leaf) → AllByRecursion (λ (later : Leaf). path_cmp leaf.0 later.0 ≡ Less) found → T (below_all name_cmp (key_of leaf).0 (map key_of found))
+below-keys : (leaf : Leaf) (found : List Leaf) → AllByRecursion (λ (later : Leaf). path_cmp leaf.0 later.0 ≡ Less) found
+    → T (below_all name_cmp (key_of leaf).0 (map key_of found))
 below-keys leaf [] h = tt
-below-keys leaf (next ∷ found) h = both (is_lt (name_cmp (key_of leaf).0 (key_of next).0)) (below_all name_cmp (key_of leaf).0 (map key_of found)) (subst (λ o. T (is_lt o)) (sym h.0) tt) (below-keys leaf found h.1)
+below-keys leaf (next ∷ found) h =
+    both (is_lt (name_cmp (key_of leaf).0 (key_of next).0)) (below_all name_cmp (key_of leaf).0 (map key_of found)) (subst (λ o. T (is_lt o)) (sym h.0) tt) (below-keys leaf found h.1)
 
 pub keys-sorted : (found : List Leaf) → Ascend found → T (is_sorted name_cmp (map key_of found))
 keys-sorted [] h = tt
-keys-sorted (leaf ∷ found) h = both (below_all name_cmp (key_of leaf).0 (map key_of found)) (is_sorted name_cmp (map key_of found)) (below-keys leaf found h.0) (keys-sorted found h.1)
+keys-sorted (leaf ∷ found) h =
+    both (below_all name_cmp (key_of leaf).0 (map key_of found)) (is_sorted name_cmp (map key_of found)) (below-keys leaf found h.0) (keys-sorted found h.1)

@@ -34,13 +34,16 @@ abbrev mutual
 
 below-first : (name next : Part) (ms : Members) → text_cmp name next ≡ Less → AllBelow next ms → AllBelow name ms
 below-first name next no_members less h = tt
-below-first name next (member other d ms) less h = (nat_list_cmp_total.trans name next other less h.0, below-first name next ms less h.1)
+below-first name next (member other d ms) less h =
+    (nat_list_cmp_total.trans name next other less h.0, below-first name next ms less h.1)
 
-below-put : (low name : Part) (d : Data) (ms : Members) → text_cmp low name ≡ Less → AllBelow low ms → AllBelow low (put name d ms)
+below-put : (low name : Part) (d : Data) (ms : Members) → text_cmp low name ≡ Less → AllBelow low ms
+    → AllBelow low (put name d ms)
 below-put low name d no_members less h = (less, tt)
 below-put low name d (member next e ms) less h = by (below-put low name d ms less h.1) (text_cmp name next)
   where
-    by : AllBelow low (put name d ms) → (o : Ordering) → AllBelow low (match_ordering o (member name d (member next e ms)) (member next d ms) (member next e (put name d ms)))
+    by : AllBelow low (put name d ms) → (o : Ordering)
+        → AllBelow low (match_ordering o (member name d (member next e ms)) (member next d ms) (member next e (put name d ms)))
     by later Less = (less, h)
     by later Equal = h
     by later Greater = (h.0, later)
@@ -49,10 +52,12 @@ put-rising : (name : Part) (d : Data) (ms : Members) → IsRising d → HaveRisi
 put-rising name d no_members rises h = (tt, rises, tt)
 put-rising name d (member next e ms) rises h = by (put-rising name d ms rises h.2) (text_cmp name next) refl
   where
-    by : HaveRising (put name d ms) → (o : Ordering) → text_cmp name next ≡ o → HaveRising (match_ordering o (member name d (member next e ms)) (member next d ms) (member next e (put name d ms)))
+    by : HaveRising (put name d ms) → (o : Ordering) → text_cmp name next ≡ o
+        → HaveRising (match_ordering o (member name d (member next e ms)) (member next d ms) (member next e (put name d ms)))
     by later Less is = ((is, below-first name next ms is h.0), rises, h)
     by later Equal is = (h.0, rises, h.2)
-    by later Greater is = (below-put next name d ms (nat_list_cmp_total.antisymm next name ∙ ap ordering_reverse is) h.0, h.1, later)
+    by later Greater is =
+        (below-put next name d ms (nat_list_cmp_total.antisymm next name ∙ ap ordering_reverse is) h.0, h.1, later)
 
 mutual
   json-rises : (j : json.Json) (d : Data) → of_json j ≡ Some d → IsRising d
@@ -60,8 +65,10 @@ mutual
   json-rises (json.boolean b) d e = subst IsRising (some_is (boolean b) d e) tt
   json-rises (json.number s) d e = let f = from_map number (number_of s) d e in subst IsRising f.2 tt
   json-rises (json.string s) d e = subst IsRising (some_is (string s) d e) tt
-  json-rises (json.array js) d e = let f = from_map array (of_items js) d e in subst IsRising f.2 (items-rise js f.0 f.1)
-  json-rises (json.object ms) d e = let f = from_map object (of_members ms no_members) d e in subst IsRising f.2 (members-rise ms no_members f.0 tt f.1)
+  json-rises (json.array js) d e =
+      let f = from_map array (of_items js) d e in subst IsRising f.2 (items-rise js f.0 f.1)
+  json-rises (json.object ms) d e =
+      let f = from_map object (of_members ms no_members) d e in subst IsRising f.2 (members-rise ms no_members f.0 tt f.1)
 
   items-rise : (js : json.Items) (ds : Items) → of_items js ≡ Some ds → AreRising ds
   items-rise json.no_items ds e = subst AreRising (some_is no_items ds e) tt
@@ -70,7 +77,8 @@ mutual
       let g = from_map (item f.0) (of_items js) ds f.2 in
       subst AreRising g.2 (json-rises j f.0 f.1, items-rise js g.0 g.1)
 
-  members-rise : (ms : json.Members) (found : Members) (all : Members) → HaveRising found → of_members ms found ≡ Some all → HaveRising all
+  members-rise : (ms : json.Members) (found : Members) (all : Members) → HaveRising found
+      → of_members ms found ≡ Some all → HaveRising all
   members-rise json.no_members found all h e = subst HaveRising (some_is found all e) h
   members-rise (json.member name j ms) found all h e =
       let f = from_and_then (λ d. of_members ms (put name d found)) (of_json j) all e in

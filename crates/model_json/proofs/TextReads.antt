@@ -54,27 +54,35 @@ kept keys limited storable = each-entry (λ name entry. IsKept (tree_of keys) (n
 
 -- ---- the whole is an object
 
-into-begins : (part : Part) (change : Data → Data) (ms : Members) → begin_as_items (into part change ms) ≡ is_array_like part
+into-begins : (part : Part) (change : Data → Data) (ms : Members)
+    → begin_as_items (into part change ms) ≡ is_array_like part
 into-begins part change no_members = refl
 into-begins part change (member name d ms) = by (is_text part name)
   where
-    by : (b : Bool) → begin_as_items (cond b (member part (change d) ms) (member part (change empty) (member name d ms))) ≡ is_array_like part
+    by : (b : Bool)
+        → begin_as_items (cond b (member part (change d) ms) (member part (change empty) (member name d ms)))
+        ≡ is_array_like part
     by true = refl
     by false = refl
 
-leaf-object : (parts : List Part) (text : List ℕ) (d : Data) → parts ≢ [] → begins_as_item parts ≡ false → (ms : Members) × (with_arrays (with_leaf parts text d) ≡ object ms)
+leaf-object : (parts : List Part) (text : List ℕ) (d : Data) → parts ≢ [] → begins_as_item parts ≡ false
+    → (ms : Members) × (with_arrays (with_leaf parts text d) ≡ object ms)
 leaf-object [] value d some named = absurd (some refl)
 leaf-object (part ∷ parts) value d some named =
     let ms = into part (with_leaf parts value) (members_in d) in
     (members_with_arrays ms, cond-false (begin_as_items ms) (array (elements ms)) (object (members_with_arrays ms)) (into-begins part (with_leaf parts value) (members_in d) ∙ named))
 
-tree-object : (whole : Data) (es : List (Name × Entry)) → AllByRecursion (IsKept whole) es → (ms : Members) × (with_arrays (tree (map leaf_of es)) ≡ object ms)
+tree-object : (whole : Data) (es : List (Name × Entry)) → AllByRecursion (IsKept whole) es
+    → (ms : Members) × (with_arrays (tree (map leaf_of es)) ≡ object ms)
 tree-object whole [] all = (no_members, refl)
-tree-object whole (key ∷ es) all = leaf-object key.0.parts key.1.value (tree (map leaf_of es)) all.0.some_part all.0.is_member
+tree-object whole (key ∷ es) all =
+    leaf-object key.0.parts key.1.value (tree (map leaf_of es)) all.0.some_part all.0.is_member
 
 -- ---- its leaves
 
-tree-leaves : (whole : Data) (es : List (Name × Entry)) → AllByRecursion (IsKept whole) es → tree (map leaf_of es) ≡ whole → Ascend (map leaf_of es) → leaves (with_arrays (tree (map leaf_of es))) ≡ Some (map leaf_of es)
+tree-leaves : (whole : Data) (es : List (Name × Entry)) → AllByRecursion (IsKept whole) es
+    → tree (map leaf_of es) ≡ whole → Ascend (map leaf_of es)
+    → leaves (with_arrays (tree (map leaf_of es))) ≡ Some (map leaf_of es)
 tree-leaves whole [] all is ascend = refl
 tree-leaves whole (key ∷ es) all is ascend =
     let found = map leaf_of (key ∷ es) in
@@ -82,7 +90,8 @@ tree-leaves whole (key ∷ es) all is ascend =
     (subst (λ d. AllByRecursion (λ (leaf : Leaf). Fits leaf.0 d) found) (sym is)
     (all_map (λ (leaf : Leaf). Fits leaf.0 whole) leaf_of (key ∷ es) (all-weaker (IsKept whole) (λ (k : Name × Entry). Fits k.0.parts whole) (λ k is_kept. is_kept.fits) (key ∷ es) all)))
 
-tree-written : (whole : Data) (es : List (Name × Entry)) → AllByRecursion (IsKept whole) es → tree (map leaf_of es) ≡ whole → Ascend (map leaf_of es) → IsWritten (with_arrays (tree (map leaf_of es)))
+tree-written : (whole : Data) (es : List (Name × Entry)) → AllByRecursion (IsKept whole) es
+    → tree (map leaf_of es) ≡ whole → Ascend (map leaf_of es) → IsWritten (with_arrays (tree (map leaf_of es)))
 tree-written whole [] all is ascend = tt
 tree-written whole (key ∷ es) all is ascend =
     let found = map leaf_of (key ∷ es) in
@@ -91,7 +100,8 @@ tree-written whole (key ∷ es) all is ascend =
     (all_map (λ (leaf : Leaf). Fits leaf.0 whole) leaf_of (key ∷ es) (all-weaker (IsKept whole) (λ (k : Name × Entry). Fits k.0.parts whole) (λ k is_kept. is_kept.fits) (key ∷ es) all)))
     (all_map IsUtf8Leaf leaf_of (key ∷ es) (all-weaker (IsKept whole) (λ (k : Name × Entry). IsUtf8Leaf (leaf_of k)) (λ k is_kept. is_kept.utf8) (key ∷ es) all)))
 
-tree-named : (whole : Data) (es : List (Name × Entry)) → AllByRecursion (IsKept whole) es → tree (map leaf_of es) ≡ whole → Ascend (map leaf_of es) → AreNamed [] (with_arrays (tree (map leaf_of es)))
+tree-named : (whole : Data) (es : List (Name × Entry)) → AllByRecursion (IsKept whole) es
+    → tree (map leaf_of es) ≡ whole → Ascend (map leaf_of es) → AreNamed [] (with_arrays (tree (map leaf_of es)))
 tree-named whole [] all is ascend = tt
 tree-named whole (key ∷ es) all is ascend =
     let found = map leaf_of (key ∷ es) in

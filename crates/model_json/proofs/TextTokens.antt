@@ -55,7 +55,8 @@ Splits text = (rest : List ℕ) → lex between (text ++ rest) ≡ lex between t
 Splits-append : (text more : List ℕ) → Splits text → Splits more → Splits (text ++ more)
 Splits-append text more p q rest =
     ap (lex between) (append_assoc text more rest) ∙ p (more ++ rest) ∙ ap (λ l. lex between text ++ l) (q rest)
-    ∙ sym (append_assoc (lex between text) (lex between more) (lex between rest)) ∙ ap (λ l. l ++ lex between rest) (sym (p more))
+    ∙ sym (append_assoc (lex between text) (lex between more) (lex between rest))
+    ∙ ap (λ l. l ++ lex between rest) (sym (p more))
 
 Splits-quoted : (text : List ℕ) → Splits (quoted text)
 unfolding lex
@@ -90,7 +91,8 @@ mutual
   Splits-value (number n) w = absurd w
   Splits-value (string text) w = Splits-quoted text
   Splits-value (array ds) w = Splits-append (91 ∷ []) (items_text false ds) Splits-open_array (Splits-items false ds w)
-  Splits-value (object ms) w = Splits-append (123 ∷ []) (members_text false ms) Splits-open_object (Splits-members false ms w)
+  Splits-value (object ms) w =
+      Splits-append (123 ∷ []) (members_text false ms) Splits-open_object (Splits-members false ms w)
 
   Splits-items : (later : Bool) (ds : Items) → AreWritten ds → Splits (items_text later ds)
   Splits-items later no_items w = λ rest. refl
@@ -159,23 +161,29 @@ abbrev BelowEach : Members → Members → Type 0
 BelowEach found no_members = ⊤
 BelowEach found (member name d ms) = BelowName found name × BelowEach found ms
 
-put-last : (name : Part) (d : Data) (found : Members) → BelowName found name → put name d found ≡ onto found (member name d no_members)
+put-last : (name : Part) (d : Data) (found : Members) → BelowName found name
+    → put name d found ≡ onto found (member name d no_members)
 put-last name d no_members h = refl
 put-last name d (member next e found) h =
     let greater : text_cmp name next ≡ Greater = nat_list_cmp_total.antisymm name next ∙ ap ordering_reverse h.0 in
-    ap (λ o. match_ordering o (member name d (member next e found)) (member next d found) (member next e (put name d found))) greater ∙ ap (member next e) (put-last name d found h.1)
+    ap (λ o. match_ordering o (member name d (member next e found)) (member next d found) (member next e (put name d found))) greater
+    ∙ ap (member next e) (put-last name d found h.1)
 
-onto-one : (name : Part) (d : Data) (found ms : Members) → onto (onto found (member name d no_members)) ms ≡ onto found (member name d ms)
+onto-one : (name : Part) (d : Data) (found ms : Members)
+    → onto (onto found (member name d no_members)) ms ≡ onto found (member name d ms)
 onto-one name d no_members ms = refl
 onto-one name d (member next e found) ms = ap (member next e) (onto-one name d found ms)
 
-BelowName-one : (name later : Part) (d : Data) (found : Members) → BelowName found later → text_cmp name later ≡ Less → BelowName (onto found (member name d no_members)) later
+BelowName-one : (name later : Part) (d : Data) (found : Members) → BelowName found later → text_cmp name later ≡ Less
+    → BelowName (onto found (member name d no_members)) later
 BelowName-one name later d no_members h less = (less, tt)
 BelowName-one name later d (member next e found) h less = (h.0, BelowName-one name later d found h.1 less)
 
-BelowEach-one : (name : Part) (d : Data) (found ms : Members) → BelowEach found ms → AllBelow name ms → BelowEach (onto found (member name d no_members)) ms
+BelowEach-one : (name : Part) (d : Data) (found ms : Members) → BelowEach found ms → AllBelow name ms
+    → BelowEach (onto found (member name d no_members)) ms
 BelowEach-one name d found no_members h below = tt
-BelowEach-one name d found (member next e ms) h below = (BelowName-one name next d found h.0 below.0, BelowEach-one name d found ms h.1 below.1)
+BelowEach-one name d found (member next e ms) h below =
+    (BelowName-one name next d found h.0 below.0, BelowEach-one name d found ms h.1 below.1)
 
 BelowEach-none : (ms : Members) → BelowEach no_members ms
 BelowEach-none no_members = tt
@@ -192,9 +200,11 @@ mutual
 
   json-items : (ds : Items) → AreWritten ds → of_items (items_outline ds) ≡ Some ds
   json-items no_items w = refl
-  json-items (item d ds) w = ap₂ (λ (o : Option Data) (more : Option Items). option_and_then (λ x. option_map (item x) more) o) (json-value d w.0) (json-items ds w.1)
+  json-items (item d ds) w =
+      ap₂ (λ (o : Option Data) (more : Option Items). option_and_then (λ x. option_map (item x) more) o) (json-value d w.0) (json-items ds w.1)
 
-  json-members : (ms found : Members) → HaveWritten ms → BelowEach found ms → of_members (members_outline ms) found ≡ Some (onto found ms)
+  json-members : (ms found : Members) → HaveWritten ms → BelowEach found ms
+      → of_members (members_outline ms) found ≡ Some (onto found ms)
   json-members no_members found w below = ap Some (sym (onto-nothing found))
     where
       onto-nothing : (found : Members) → onto found no_members ≡ found
@@ -236,7 +246,8 @@ mutual
 
   utf8-items : (later : Bool) (ds : Items) → AreWritten ds → IsUtf8 (items_text later ds)
   utf8-items later no_items w = IsUtf8-byte 93 (omega arith)
-  utf8-items later (item d ds) w = utf8-comma later _ (IsUtf8-append (compact_text d) (items_text true ds) (utf8-value d w.0) (utf8-items true ds w.1))
+  utf8-items later (item d ds) w =
+      utf8-comma later _ (IsUtf8-append (compact_text d) (items_text true ds) (utf8-value d w.0) (utf8-items true ds w.1))
 
   utf8-members : (later : Bool) (ms : Members) → HaveWritten ms → IsUtf8 (members_text later ms)
   utf8-members later no_members w = IsUtf8-byte 125 (omega arith)

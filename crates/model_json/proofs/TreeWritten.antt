@@ -21,11 +21,13 @@ use Rattle.model_json.proofs.TextTokens.{AllBelow, IsWritten, AreWritten, HaveWr
 abbrev pub IsUtf8Leaf : Leaf → Type 0
 IsUtf8Leaf leaf = AllByRecursion IsUtf8 leaf.0 × IsUtf8 leaf.1
 
-utf8-within : (part : Part) (found : List Leaf) → AllByRecursion IsUtf8Leaf (within part found) → AllByRecursion IsUtf8Leaf found
+utf8-within : (part : Part) (found : List Leaf) → AllByRecursion IsUtf8Leaf (within part found)
+    → AllByRecursion IsUtf8Leaf found
 utf8-within part [] h = tt
 utf8-within part (leaf ∷ found) h = ((h.0.0.1, h.0.1), utf8-within part found h.1)
 
-below-members : (name : Part) (ms : Members) (found : List Leaf) → members_in (tree found) ≡ ms → Ascend found → AllByRecursion (λ (leaf : Leaf). Goes leaf.0 ms) found → BeginLater name found → AllBelow name ms
+below-members : (name : Part) (ms : Members) (found : List Leaf) → members_in (tree found) ≡ ms → Ascend found
+    → AllByRecursion (λ (leaf : Leaf). Goes leaf.0 ms) found → BeginLater name found → AllBelow name ms
 below-members name no_members found is ascend go later = tt
 below-members name (member next d ms) found is ascend go later =
     let c = cut next d ms found is ascend go in
@@ -33,15 +35,23 @@ below-members name (member next d ms) found is ascend go later =
     (all.0, below-members name ms c.more c.of_others c.more_ascend c.go (all_back _ (within next (c.first ∷ c.here)) c.more all))
 
 mutual
-  pub value-written : (d : Data) (found : List Leaf) → tree found ≡ d → found ≢ [] → Ascend found → AllByRecursion (λ (leaf : Leaf). Fits leaf.0 d) found → AllByRecursion IsUtf8Leaf found → IsWritten d
-  value-written null found is some ascend fit utf8 = let f = first-fits null found some fit in absurd (no-text null f.0 (λ h. h) (λ part. refl) f.1)
-  value-written (boolean b) found is some ascend fit utf8 = let f = first-fits (boolean b) found some fit in absurd (no-text (boolean b) f.0 (λ h. h) (λ part. refl) f.1)
-  value-written (number n) found is some ascend fit utf8 = let f = first-fits (number n) found some fit in absurd (no-text (number n) f.0 (λ h. h) (λ part. refl) f.1)
-  value-written (string text) found is some ascend fit utf8 = (subst (AllByRecursion IsUtf8Leaf) (text-leaves text found is some ascend fit) utf8).0.1
-  value-written (array ds) found is some ascend fit utf8 = let f = first-fits (array ds) found some fit in absurd (no-text (array ds) f.0 (λ h. h) (λ part. refl) f.1)
-  value-written (object ms) found is some ascend fit utf8 = members-written ms found (ap members_in is) ascend (all-go ms found fit) utf8
+  pub value-written : (d : Data) (found : List Leaf) → tree found ≡ d → found ≢ [] → Ascend found
+      → AllByRecursion (λ (leaf : Leaf). Fits leaf.0 d) found → AllByRecursion IsUtf8Leaf found → IsWritten d
+  value-written null found is some ascend fit utf8 =
+      let f = first-fits null found some fit in absurd (no-text null f.0 (λ h. h) (λ part. refl) f.1)
+  value-written (boolean b) found is some ascend fit utf8 =
+      let f = first-fits (boolean b) found some fit in absurd (no-text (boolean b) f.0 (λ h. h) (λ part. refl) f.1)
+  value-written (number n) found is some ascend fit utf8 =
+      let f = first-fits (number n) found some fit in absurd (no-text (number n) f.0 (λ h. h) (λ part. refl) f.1)
+  value-written (string text) found is some ascend fit utf8 =
+      (subst (AllByRecursion IsUtf8Leaf) (text-leaves text found is some ascend fit) utf8).0.1
+  value-written (array ds) found is some ascend fit utf8 =
+      let f = first-fits (array ds) found some fit in absurd (no-text (array ds) f.0 (λ h. h) (λ part. refl) f.1)
+  value-written (object ms) found is some ascend fit utf8 =
+      members-written ms found (ap members_in is) ascend (all-go ms found fit) utf8
 
-  members-written : (ms : Members) (found : List Leaf) → members_in (tree found) ≡ ms → Ascend found → AllByRecursion (λ (leaf : Leaf). Goes leaf.0 ms) found → AllByRecursion IsUtf8Leaf found → HaveWritten ms
+  members-written : (ms : Members) (found : List Leaf) → members_in (tree found) ≡ ms → Ascend found
+      → AllByRecursion (λ (leaf : Leaf). Goes leaf.0 ms) found → AllByRecursion IsUtf8Leaf found → HaveWritten ms
   members-written no_members found is ascend go utf8 = tt
   members-written (member name d ms) found is ascend go utf8 =
       let c = cut name d ms found is ascend go in
@@ -59,7 +69,8 @@ below-arrays : (name : Part) (ms : Members) → AllBelow name ms → AllBelow na
 below-arrays name no_members h = tt
 below-arrays name (member next d ms) h = (h.0, below-arrays name ms h.1)
 
-either-written : (b : Bool) (ds : Items) (ms : Members) → AreWritten ds → HaveWritten ms → IsWritten (cond b (array ds) (object ms))
+either-written : (b : Bool) (ds : Items) (ms : Members) → AreWritten ds → HaveWritten ms
+    → IsWritten (cond b (array ds) (object ms))
 either-written true ds ms p q = p
 either-written false ds ms p q = q
 
@@ -70,7 +81,8 @@ mutual
   arrays-written (number n) w = w
   arrays-written (string text) w = w
   arrays-written (array ds) w = w
-  arrays-written (object ms) w = either-written (begin_as_items ms) (elements ms) (members_with_arrays ms) (elements-written ms w) (names-written ms w)
+  arrays-written (object ms) w =
+      either-written (begin_as_items ms) (elements ms) (members_with_arrays ms) (elements-written ms w) (names-written ms w)
 
   elements-written : (ms : Members) → HaveWritten ms → AreWritten (elements ms)
   elements-written no_members w = tt
@@ -80,7 +92,8 @@ mutual
   names-written no_members w = tt
   names-written (member name d ms) w = (w.0, below-arrays name ms w.1, arrays-written d w.2, names-written ms w.3)
 
-either-deep : (b : Bool) (ds : Items) (ms : Members) (n : ℕ) → items_depth ds ≡ n → members_depth ms ≡ n → depth (cond b (array ds) (object ms)) ≡ suc n
+either-deep : (b : Bool) (ds : Items) (ms : Members) (n : ℕ) → items_depth ds ≡ n → members_depth ms ≡ n
+    → depth (cond b (array ds) (object ms)) ≡ suc n
 either-deep true ds ms n p q = ap suc p
 either-deep false ds ms n p q = ap suc q
 
@@ -91,7 +104,8 @@ mutual
   arrays-depth (number n) = refl
   arrays-depth (string text) = refl
   arrays-depth (array ds) = refl
-  arrays-depth (object ms) = either-deep (begin_as_items ms) (elements ms) (members_with_arrays ms) (members_depth ms) (elements-depth ms) (names-depth ms)
+  arrays-depth (object ms) =
+      either-deep (begin_as_items ms) (elements ms) (members_with_arrays ms) (members_depth ms) (elements-depth ms) (names-depth ms)
 
   elements-depth : (ms : Members) → items_depth (elements ms) ≡ members_depth ms
   elements-depth no_members = refl
@@ -120,11 +134,13 @@ members-depth (string other) n h = omega arith
 members-depth (array ds) n h = omega arith
 members-depth (object ms) n h = omega arith
 
-into-depth : (part : Part) (change : Data → Data) (n : ℕ) → ((d : Data) → depth d ≤ n → depth (change d) ≤ n) → depth (change empty) ≤ n → (ms : Members) → members_depth ms ≤ n → members_depth (into part change ms) ≤ n
+into-depth : (part : Part) (change : Data → Data) (n : ℕ) → ((d : Data) → depth d ≤ n → depth (change d) ≤ n)
+    → depth (change empty) ≤ n → (ms : Members) → members_depth ms ≤ n → members_depth (into part change ms) ≤ n
 into-depth part change n keeps fresh no_members h = omega (arith, fresh)
 into-depth part change n keeps fresh (member name d ms) h = by (is_text part name)
   where
-    by : (b : Bool) → members_depth (cond b (member part (change d) ms) (member part (change empty) (member name d ms))) ≤ n
+    by : (b : Bool)
+        → members_depth (cond b (member part (change d) ms) (member part (change empty) (member name d ms))) ≤ n
     by true = let changed : depth (change d) ≤ n = keeps d (omega arith) in omega arith
     by false = omega (arith, fresh)
 
@@ -132,7 +148,8 @@ fresh-depth : (parts : List Part) (text : List ℕ) → depth (with_leaf parts t
 fresh-depth [] text = omega arith
 fresh-depth (part ∷ parts) text = omega (arith, fresh-depth parts text)
 
-leaf-depth : (parts : List Part) (text : List ℕ) (n : ℕ) → length parts ≤ n → (d : Data) → depth d ≤ n → depth (with_leaf parts text d) ≤ n
+leaf-depth : (parts : List Part) (text : List ℕ) (n : ℕ) → length parts ≤ n → (d : Data) → depth d ≤ n
+    → depth (with_leaf parts text d) ≤ n
 leaf-depth [] text n few d h = text-depth text d n h
 leaf-depth (part ∷ parts) text zero few d h = absurd (omega arith)
 leaf-depth (part ∷ parts) text (suc n) few d h =
@@ -141,6 +158,7 @@ leaf-depth (part ∷ parts) text (suc n) few d h =
     let within : members_depth (into part (with_leaf parts text) (members_in d)) ≤ n = into-depth part (with_leaf parts text) n (leaf-depth parts text n short) fresh (members_in d) (members-depth d n h) in
     omega arith
 
-pub tree-depth : (found : List Leaf) (n : ℕ) → 1 ≤ n → AllByRecursion (λ (leaf : Leaf). length leaf.0 ≤ n) found → depth (tree found) ≤ n
+pub tree-depth : (found : List Leaf) (n : ℕ) → 1 ≤ n → AllByRecursion (λ (leaf : Leaf). length leaf.0 ≤ n) found
+    → depth (tree found) ≤ n
 tree-depth [] n some few = some
 tree-depth (leaf ∷ found) n some few = leaf-depth leaf.0 leaf.1 n few.0 (tree found) (tree-depth found n some few.1)

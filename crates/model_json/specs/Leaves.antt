@@ -50,7 +50,8 @@ abbrev mutual
 
   pub items_leaves : ℕ → Items → Option (List Leaf)
   items_leaves index no_items = Some []
-  items_leaves index (item d ds) = joined (array_part index) (option_and_then if_some (leaves d)) (items_leaves (index + 1) ds)
+  items_leaves index (item d ds) =
+      joined (array_part index) (option_and_then if_some (leaves d)) (items_leaves (index + 1) ds)
 
   pub members_leaves : Members → Option (List Leaf)
   members_leaves no_members = Some []

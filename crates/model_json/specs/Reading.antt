@@ -40,11 +40,13 @@ abbrev mutual
 
   pub ItemsNamed : List Part → ℕ → Items → Type 0
   ItemsNamed before index no_items = ⊤
-  ItemsNamed before index (item d ds) = IsNamed before (array_part index) × AreNamed (before ++ array_part index ∷ []) d × ItemsNamed before (index + 1) ds
+  ItemsNamed before index (item d ds) =
+      IsNamed before (array_part index) × AreNamed (before ++ array_part index ∷ []) d × ItemsNamed before (index + 1) ds
 
   pub MembersNamed : List Part → Members → Type 0
   MembersNamed before no_members = ⊤
-  MembersNamed before (member name d ms) = IsNamed before name × AreNamed (before ++ name ∷ []) d × MembersNamed before ms
+  MembersNamed before (member name d ms) =
+      IsNamed before name × AreNamed (before ++ name ∷ []) d × MembersNamed before ms
 
 -- bytes are a JSON text, whose value is an object, and its leaves are the keys of a map in name order, within the
 -- limits of a file

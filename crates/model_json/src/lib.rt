@@ -30,5 +30,6 @@ pub fn json_files_is_lawful()
 /// The leaves of the value that a text is stand in name order, each once: a reading asks no more of a text by asking
 /// for that.
 pub fn what_is_read_ascends()
-    ensures { (bytes : List ℕ) (d : Data) (found : List Leaf) → read bytes ≡ Some d → leaves d ≡ Some found → length found ≤ last_index → T (is_sorted name_cmp (map key_of found)) }
+    ensures { (bytes : List ℕ) (d : Data) (found : List Leaf) → read bytes ≡ Some d → leaves d ≡ Some found
+        → length found ≤ last_index → T (is_sorted name_cmp (map key_of found)) }
 {}

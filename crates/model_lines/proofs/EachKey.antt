@@ -12,10 +12,12 @@ use Rattle.general_words.proofs.Maps.{get-insert_same}
 use Rattle.model_maps.proofs.MapLemmas.{found_in_insert}
 
 pub found_nowhere : (name : Name) (entry : Entry) → finite.get no_keys name ≡ Some entry → ⊥
-found_nowhere name entry found = let none : ◌≡◌ {A = Option Entry} None (Some entry) = sym (finite.get-empty name_cmp name) ∙ found in absurd cc
+found_nowhere name entry found =
+    let none : ◌≡◌ {A = Option Entry} None (Some entry) = sym (finite.get-empty name_cmp name) ∙ found in absurd cc
 
 -- of what a map holds behind an insertion, this is what was inserted, and that stood there before
-pub found_in_grown : (keys : KeyMap) (name : Name) (entry : Entry) (P : Name → Entry → Type 0) → P name entry → ((q : Name) (e : Entry) → finite.get keys q ≡ Some e → P q e)
+pub found_in_grown : (keys : KeyMap) (name : Name) (entry : Entry) (P : Name → Entry → Type 0) → P name entry
+    → ((q : Name) (e : Entry) → finite.get keys q ≡ Some e → P q e)
     → (q : Name) (e : Entry) → finite.get (finite.insert keys name entry) q ≡ Some e → P q e
 found_in_grown keys name entry P here there q e found =
     elim (found_in_insert name_cmp_total name_cmp-IsAntisymmetric keys name entry q e found) as (λ _. P q e) [
@@ -28,12 +30,17 @@ module _ (Has : Name → Entry → Type 0) where
   EachHas-no_keys name entry found = absurd (found_nowhere name entry found)
 
   -- a key with the property joins keys that have it
-  pub EachHas-insert : (keys : KeyMap) (name : Name) (entry : Entry) → EachHas Has keys → Has name entry → EachHas Has (finite.insert keys name entry)
+  pub EachHas-insert : (keys : KeyMap) (name : Name) (entry : Entry) → EachHas Has keys → Has name entry
+      → EachHas Has (finite.insert keys name entry)
   EachHas-insert keys name entry each has = found_in_grown keys name entry Has has each
 
   -- each key alone has it
-  pub EachHas-alone : (keys : KeyMap) → EachHas Has keys → (name : Name) (entry : Entry) → finite.get keys name ≡ Some entry → EachHas Has (finite.insert no_keys name entry)
+  pub EachHas-alone : (keys : KeyMap) → EachHas Has keys → (name : Name) (entry : Entry)
+      → finite.get keys name ≡ Some entry → EachHas Has (finite.insert no_keys name entry)
   EachHas-alone keys each name entry found = EachHas-insert no_keys name entry EachHas-no_keys (each name entry found)
 
-  pub EachHas-from_alone : (keys : KeyMap) → ((name : Name) (entry : Entry) → finite.get keys name ≡ Some entry → EachHas Has (finite.insert no_keys name entry)) → EachHas Has keys
-  EachHas-from_alone keys each name entry found = each name entry found name entry (get-insert_same name_cmp_total no_keys name entry)
+  pub EachHas-from_alone : (keys : KeyMap)
+      → ((name : Name) (entry : Entry) → finite.get keys name ≡ Some entry → EachHas Has (finite.insert no_keys name entry))
+      → EachHas Has keys
+  EachHas-from_alone keys each name entry found =
+      each name entry found name entry (get-insert_same name_cmp_total no_keys name entry)

@@ -20,21 +20,28 @@ use Rattle.model_lines.proofs.SortedKeys.{sorted-behind}
 
 module _ (Has : Name → Entry → Type 0) where
   -- what is found in two lists joined is found in one of them
-  find-append : (front rest : List (Name × Entry)) (name : Name) (entry : Entry) → find name_cmp name (front ++ rest) ≡ Some entry → (find name_cmp name front ≡ Some entry) ⊎ (find name_cmp name rest ≡ Some entry)
+  find-append : (front rest : List (Name × Entry)) (name : Name) (entry : Entry)
+      → find name_cmp name (front ++ rest) ≡ Some entry
+      → (find name_cmp name front ≡ Some entry) ⊎ (find name_cmp name rest ≡ Some entry)
   find-append [] rest name entry found = inr found
-  find-append (key ∷ front) rest name entry found = by (λ later. find-append front rest name entry later) (eq_by_cmp name_cmp name key.0) found
+  find-append (key ∷ front) rest name entry found =
+      by (λ later. find-append front rest name entry later) (eq_by_cmp name_cmp name key.0) found
     where
-      by : (find name_cmp name (front ++ rest) ≡ Some entry → (find name_cmp name front ≡ Some entry) ⊎ (find name_cmp name rest ≡ Some entry)) → (t : Bool) → cond t (Some key.1) (find name_cmp name (front ++ rest)) ≡ Some entry → (cond t (Some key.1) (find name_cmp name front) ≡ Some entry) ⊎ (find name_cmp name rest ≡ Some entry)
+      by : (find name_cmp name (front ++ rest) ≡ Some entry → (find name_cmp name front ≡ Some entry) ⊎ (find name_cmp name rest ≡ Some entry))
+          → (t : Bool) → cond t (Some key.1) (find name_cmp name (front ++ rest)) ≡ Some entry
+          → (cond t (Some key.1) (find name_cmp name front) ≡ Some entry) ⊎ (find name_cmp name rest ≡ Some entry)
       by more true here = inl here
       by more false later = more later
 
   -- a list of greater names has none that ties
-  none_above : (x other : Name) (rest : List (Name × Entry)) → name_cmp other x ≡ Less → T (below_all name_cmp x rest) → find name_cmp other rest ≡ None
+  none_above : (x other : Name) (rest : List (Name × Entry)) → name_cmp other x ≡ Less → T (below_all name_cmp x rest)
+      → find name_cmp other rest ≡ None
   none_above x other [] before h = refl
   none_above x other (key ∷ rest) before h =
       by (none_above x other rest before (second _ _ h)) (eq_by_cmp name_cmp other key.0) refl
     where
-      by : find name_cmp other rest ≡ None → (t : Bool) → eq_by_cmp name_cmp other key.0 ≡ t → cond t (Some key.1) (find name_cmp other rest) ≡ None
+      by : find name_cmp other rest ≡ None → (t : Bool) → eq_by_cmp name_cmp other key.0 ≡ t
+          → cond t (Some key.1) (find name_cmp other rest) ≡ None
       by more true e =
           let same = name_cmp-IsAntisymmetric other key.0 (tied (name_cmp other key.0) e) in
           let down : name_cmp x key.0 ≡ Less = less (name_cmp x key.0) (first (is_lt (name_cmp x key.0)) (below_all name_cmp x rest) h) in
@@ -44,7 +51,8 @@ module _ (Has : Name → Entry → Type 0) where
       by more false e = more
 
   -- each key with a lesser name has the property
-  pub LacksFirst-before : (keys : KeyMap) (name : Name) → LacksFirst Has keys name → (other : Name) (entry : Entry) → finite.get keys other ≡ Some entry → name_cmp other name ≡ Less → Has other entry
+  pub LacksFirst-before : (keys : KeyMap) (name : Name) → LacksFirst Has keys name → (other : Name) (entry : Entry)
+      → finite.get keys other ≡ Some entry → name_cmp other name ≡ Less → Has other entry
   LacksFirst-before keys name lacks other entry found before =
       let found_in : find name_cmp other (lacks.front ++ (name, lacks.entry) ∷ lacks.behind) ≡ Some entry = sym (ap (find name_cmp other) lacks.all) ∙ sym (finite.get-entries keys other) ∙ found in
       let sorted = subst (λ es. T (is_sorted name_cmp es)) lacks.all (finite.entries_sorted keys) in

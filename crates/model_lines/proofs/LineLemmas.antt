@@ -15,9 +15,12 @@ lines-line (b ∷ line) rest h = cond-false (b == 10) _ _ (ne_eqb b 10 h.0) ∙ 
 
 pub lines-ended : (all : List (List ℕ)) → AllByRecursion (AllByRecursion IsInLine) all → lines (ended all) ≡ all
 lines-ended [] h = refl
-lines-ended (line ∷ all) h = ap lines (append_assoc line (10 ∷ []) (ended all)) ∙ lines-line line (ended all) h.0 ∙ ap (λ ls. line ∷ ls) (lines-ended all h.1)
+lines-ended (line ∷ all) h =
+    ap lines (append_assoc line (10 ∷ []) (ended all)) ∙ lines-line line (ended all) h.0
+    ∙ ap (λ ls. line ∷ ls) (lines-ended all h.1)
 
-onto_first-in_line : (b : ℕ) (all : List (List ℕ)) → IsInLine b → AllByRecursion (AllByRecursion IsInLine) all → AllByRecursion (AllByRecursion IsInLine) (onto_first b all)
+onto_first-in_line : (b : ℕ) (all : List (List ℕ)) → IsInLine b → AllByRecursion (AllByRecursion IsInLine) all
+    → AllByRecursion (AllByRecursion IsInLine) (onto_first b all)
 onto_first-in_line b [] p h = ((p, tt), tt)
 onto_first-in_line b (line ∷ all) p h = ((p, h.0), h.1)
 
@@ -33,7 +36,9 @@ without_return-same [] h = refl
 without_return-same (b ∷ []) h = cond-false (b == 13) _ _ (ne_eqb b 13 h.0)
 without_return-same (b ∷ c ∷ bytes) h = ap (λ t. b ∷ t) (without_return-same (c ∷ bytes) h.1)
 
-pub all-without_return : (P : ℕ → Type 0) (line : List ℕ) → AllByRecursion P line → AllByRecursion P (without_return line)
+pub all-without_return : (P : ℕ → Type 0) (line : List ℕ) → AllByRecursion P line
+    → AllByRecursion P (without_return line)
 all-without_return P [] h = tt
-all-without_return P (b ∷ []) h = cond_both (b == 13) [] (b ∷ []) (λ bytes. AllByRecursion P bytes) (λ _. tt) (λ _. (h.0, tt))
+all-without_return P (b ∷ []) h =
+    cond_both (b == 13) [] (b ∷ []) (λ bytes. AllByRecursion P bytes) (λ _. tt) (λ _. (h.0, tt))
 all-without_return P (b ∷ c ∷ bytes) h = (h.0, all-without_return P (c ∷ bytes) h.1)

@@ -61,7 +61,8 @@ spelled-told text =
   where
     by_refusal : IsUtf8 text → (r : Option Refusal) → refusal_of text ≡ r → IsFound (Spells text)
     by_refusal utf8 None e = inl (Spells-from_no_refusal text utf8 e)
-    by_refusal utf8 (Some r) e = inr (λ name h. let none : ◌≡◌ {A = Option Refusal} (Some r) None = sym e ∙ refusal_of-spelled text name h in absurd cc)
+    by_refusal utf8 (Some r) e =
+        inr (λ name h. let none : ◌≡◌ {A = Option Refusal} (Some r) None = sym e ∙ refusal_of-spelled text name h in absurd cc)
 
 part-told : (part : Part) → IsTold (IsPart part)
 part-told part =

@@ -5,7 +5,9 @@ use Rattle.std.specs.FinMap as finite
 use Rattle.std.specs.List.{AllByRecursion}
 use Rattle.model_maps.specs.Entry.{Meta, array_texts, item_name, texts_from}
 
-items-from : (more : ℕ) (meta : Meta) (prefix : List ℕ) (index : ℕ) (texts : List (List ℕ)) → ((i : ℕ) → i < length texts → finite.get meta (item_name prefix (index + i)) ≡ slice_get texts i) → finite.get meta (item_name prefix (index + length texts)) ≡ None
+items-from : (more : ℕ) (meta : Meta) (prefix : List ℕ) (index : ℕ) (texts : List (List ℕ))
+    → ((i : ℕ) → i < length texts → finite.get meta (item_name prefix (index + i)) ≡ slice_get texts i)
+    → finite.get meta (item_name prefix (index + length texts)) ≡ None
     → length texts ≤ more → texts ≡ texts_from more meta prefix index
 items-from zero meta prefix index [] items ends few = refl
 items-from (suc more) meta prefix index [] items ends few =
@@ -23,7 +25,9 @@ items-from (suc more) meta prefix index (text ∷ texts) items ends few =
     (omega (arith, few)))
     ∙ ap (λ (found : Option (List ℕ)). elim found [ None ↦ [] | Some text ↦ text ∷ texts_from more meta prefix (index + 1) ]) (sym this)
 
-pub array_texts-items : (meta : Meta) (prefix : List ℕ) (texts : List (List ℕ)) → ((i : ℕ) → i < length texts → finite.get meta (item_name prefix i) ≡ slice_get texts i) → finite.get meta (item_name prefix (length texts)) ≡ None → length texts ≤ 2 ^ 64 → array_texts meta prefix ≡ texts
+pub array_texts-items : (meta : Meta) (prefix : List ℕ) (texts : List (List ℕ))
+    → ((i : ℕ) → i < length texts → finite.get meta (item_name prefix i) ≡ slice_get texts i)
+    → finite.get meta (item_name prefix (length texts)) ≡ None → length texts ≤ 2 ^ 64 → array_texts meta prefix ≡ texts
 unfolding array_texts
 array_texts-items meta prefix texts items ends few =
     let moved : (i : ℕ) → 0 + i ≡ i = λ i. omega arith in
@@ -33,11 +37,14 @@ array_texts-items meta prefix texts items ends few =
     few)
 
 -- an array without a first item has no texts
-pub array_texts-none : (meta : Meta) (prefix : List ℕ) → finite.get meta (item_name prefix 0) ≡ None → array_texts meta prefix ≡ []
-array_texts-none meta prefix none = array_texts-items meta prefix [] (λ i within. absurd (omega (arith, within))) none (omega arith)
+pub array_texts-none : (meta : Meta) (prefix : List ℕ) → finite.get meta (item_name prefix 0) ≡ None
+    → array_texts meta prefix ≡ []
+array_texts-none meta prefix none =
+    array_texts-items meta prefix [] (λ i within. absurd (omega (arith, within))) none (omega arith)
 
 -- of the texts of an array holds what holds of each text of the metadata
-pub array_texts-all : (P : List ℕ → Type 0) (meta : Meta) (prefix : List ℕ) → ((name text : List ℕ) → finite.get meta name ≡ Some text → P text) → AllByRecursion P (array_texts meta prefix)
+pub array_texts-all : (P : List ℕ → Type 0) (meta : Meta) (prefix : List ℕ)
+    → ((name text : List ℕ) → finite.get meta name ≡ Some text → P text) → AllByRecursion P (array_texts meta prefix)
 unfolding array_texts
 array_texts-all P meta prefix each = from (2 ^ 64) 0
   where
@@ -45,6 +52,8 @@ array_texts-all P meta prefix each = from (2 ^ 64) 0
     from zero index = tt
     from (suc more) index = by (from more (index + 1)) (finite.get meta (item_name prefix index)) refl
       where
-        by : AllByRecursion P (texts_from more meta prefix (index + 1)) → (o : Option (List ℕ)) → finite.get meta (item_name prefix index) ≡ o → AllByRecursion P (elim o [ None ↦ [] | Some t ↦ t ∷ texts_from more meta prefix (index + 1) ])
+        by : AllByRecursion P (texts_from more meta prefix (index + 1)) → (o : Option (List ℕ))
+            → finite.get meta (item_name prefix index) ≡ o
+            → AllByRecursion P (elim o [ None ↦ [] | Some t ↦ t ∷ texts_from more meta prefix (index + 1) ])
         by rest None e = tt
         by rest (Some t) e = (each (item_name prefix index) t e, rest)

@@ -22,4 +22,6 @@ pub plain_a_has : map.get plain_a name_a ≡ Some (plain_entry (codes "1"))
 plain_a_has = get-insert_same name_cmp_total no_keys name_a (plain_entry (codes "1"))
 
 pub plain_a_weighs : weight plain_a ≡ 67
-plain_a_weighs = weight-insert no_keys name_a _ (map.get-empty name_cmp name_a) ∙ ap₂ (λ m n. m + n) weight-no_keys (weight_of_key-plain name_a (codes "1"))
+plain_a_weighs =
+    weight-insert no_keys name_a _ (map.get-empty name_cmp name_a)
+    ∙ ap₂ (λ m n. m + n) weight-no_keys (weight_of_key-plain name_a (codes "1"))

@@ -17,7 +17,8 @@ use Rattle.general_words.proofs.Orders.{less}
 use Rattle.general_words.proofs.Maps.{entries-retain}
 
 -- who is behind one that is not before a name isn't before it either
-pub still_behind : (above x y : Name) → is_lt (name_cmp x above) ≡ false → name_cmp x y ≡ Less → is_lt (name_cmp y above) ≡ false
+pub still_behind : (above x y : Name) → is_lt (name_cmp x above) ≡ false → name_cmp x y ≡ Less
+    → is_lt (name_cmp y above) ≡ false
 still_behind above x y not_before nearer =
     elim (name_cmp y above) as (λ r. name_cmp y above ≡ r → is_lt r ≡ false) [
       | Less ↦ λ p. sym (ap is_lt (name_cmp_total.trans x y above nearer p)) ∙ not_before
@@ -33,7 +34,8 @@ module _ {X : Type 0} (above : Name) where
   outside = where_key name_cmp (λ name. not (is_at_or_below above name))
 
   -- behind one that is past them there are none of them
-  none_behind : (x : Name) (es : List (Name × X)) → T (below_all name_cmp x es) → is_lt (name_cmp x above) ≡ false → is_at_or_below above x ≡ false → (inside es ≡ []) × (outside es ≡ es)
+  none_behind : (x : Name) (es : List (Name × X)) → T (below_all name_cmp x es) → is_lt (name_cmp x above) ≡ false
+      → is_at_or_below above x ≡ false → (inside es ≡ []) × (outside es ≡ es)
   none_behind x [] h not_before past = (refl, refl)
   none_behind x (e ∷ es) h not_before past =
       let rest = none_behind x es (second _ _ h) not_before past in
@@ -44,18 +46,22 @@ module _ {X : Type 0} (above : Name) where
   abbrev Parted : List (Name × X) → Type 0
   Parted es = (behind : List (Name × X)) × (es ≡ inside es ++ behind) × (outside es ≡ behind)
 
-  parted_more : (e : Name × X) (es : List (Name × X)) → T (is_sorted name_cmp (e ∷ es)) → is_lt (name_cmp e.0 above) ≡ false → Parted es → Parted (e ∷ es)
+  parted_more : (e : Name × X) (es : List (Name × X)) → T (is_sorted name_cmp (e ∷ es))
+      → is_lt (name_cmp e.0 above) ≡ false → Parted es → Parted (e ∷ es)
   parted_more e es h not_before more = elim (is_at_or_below above e.0) as (λ b. is_at_or_below above e.0 ≡ b → (behind : List (Name × X)) × (e ∷ es ≡ cond b (e ∷ inside es) (inside es) ++ behind) × (cond (not b) (e ∷ outside es) (outside es) ≡ behind)) [
     | true ↦ λ p. (more.0, ap (λ fs. e ∷ fs) more.1, more.2)
     | false ↦ λ p. let rest = none_behind e.0 es (first _ _ h) not_before p in (e ∷ es, ap (λ fs. fs ++ (e ∷ es)) (sym rest.0), ap (λ fs. e ∷ fs) rest.1)
   ] refl
 
-  parted : (e : Name × X) (es : List (Name × X)) → T (is_sorted name_cmp (e ∷ es)) → is_lt (name_cmp e.0 above) ≡ false → Parted (e ∷ es)
+  parted : (e : Name × X) (es : List (Name × X)) → T (is_sorted name_cmp (e ∷ es)) → is_lt (name_cmp e.0 above) ≡ false
+      → Parted (e ∷ es)
   parted e [] h not_before = parted_more e [] h not_before ([], refl, refl)
-  parted e (f ∷ fs) h not_before = parted_more e (f ∷ fs) h not_before (parted f fs (second _ _ h) (still_behind above e.0 f.0 not_before (less _ (first _ _ (first _ _ h)))))
+  parted e (f ∷ fs) h not_before =
+      parted_more e (f ∷ fs) h not_before (parted f fs (second _ _ h) (still_behind above e.0 f.0 not_before (less _ (first _ _ (first _ _ h)))))
 
   abbrev Together : List (Name × X) → Type 0
-  Together es = (before : List (Name × X)) × (behind : List (Name × X)) × (es ≡ before ++ (inside es ++ behind)) × (outside es ≡ before ++ behind)
+  Together es =
+      (before : List (Name × X)) × (behind : List (Name × X)) × (es ≡ before ++ (inside es ++ behind)) × (outside es ≡ before ++ behind)
 
   together : (es : List (Name × X)) → T (is_sorted name_cmp es) → Together es
   together [] h = ([], [], refl, refl)

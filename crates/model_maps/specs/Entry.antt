@@ -67,4 +67,5 @@ array_texts meta prefix = texts_from (2 ^ 64) meta prefix 0
 
 -- how a proof tells entries apart
 abbrev pub coded_entry : Coded Entry
-coded_entry = code_by (List ℕ × Meta) (coded× (coded_list coded_ℕ) coded_meta) (λ e. (e.value, e.meta)) (λ p. record { value = p.0; meta = p.1 }) (λ _. refl)
+coded_entry =
+    code_by (List ℕ × Meta) (coded× (coded_list coded_ℕ) coded_meta) (λ e. (e.value, e.meta)) (λ p. record { value = p.0; meta = p.1 }) (λ _. refl)

@@ -12,7 +12,8 @@ ghost use Rattle.model_maps.specs.Together.{StandTogether};
 /// The empty map weighs nothing, and a new key adds its own weight.
 pub fn a_new_key_adds_its_weight()
     ensures empty { weight no_keys ≡ 0 }
-    ensures added { (keys : KeyMap) (name : Name) (entry : Entry) → map.get keys name ≡ None → weight (map.insert keys name entry) ≡ weight keys + weight_of_key name entry }
+    ensures added { (keys : KeyMap) (name : Name) (entry : Entry) → map.get keys name ≡ None
+        → weight (map.insert keys name entry) ≡ weight keys + weight_of_key name entry }
 {}
 
 /// A key weighs `key_weight`, 64, and the bytes of its canonical name and of its value.

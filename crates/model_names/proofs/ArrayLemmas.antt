@@ -33,12 +33,14 @@ ascii_digits = numerals_by_value _ tells_ascii_digits
 -- no digit is an underscore
 first_digit : (digits : List ℕ) → are_digits digits ≡ true → get_or digits 0 0 ≢ 95
 first_digit [] h = absurd cc
-first_digit (d ∷ digits) h = λ e. let range = digit_range d (and_parts (is_ascii_digit d) _ (and_parts (nat_lt 0 (length (d ∷ digits))) _ h).1).0 in omega (arith, range.1, e)
+first_digit (d ∷ digits) h =
+    λ e. let range = digit_range d (and_parts (is_ascii_digit d) _ (and_parts (nat_lt 0 (length (d ∷ digits))) _ h).1).0 in omega (arith, range.1, e)
 
 pub some_digits : (digits : List ℕ) → are_digits digits ≡ true → 0 < length digits
 some_digits digits h = ltb-true 0 (length digits) (and_parts (nat_lt 0 (length digits)) _ h).0
 
-digit_bytes : (digits : List ℕ) → list_all is_ascii_digit digits ≡ true → AllByRecursion (λ b. (0 < b) × (b < 128)) digits
+digit_bytes : (digits : List ℕ) → list_all is_ascii_digit digits ≡ true
+    → AllByRecursion (λ b. (0 < b) × (b < 128)) digits
 digit_bytes [] h = tt
 digit_bytes (d ∷ digits) h =
     let both = and_parts (is_ascii_digit d) (list_all is_ascii_digit digits) h in
@@ -47,7 +49,8 @@ digit_bytes (d ∷ digits) h =
 
 -- ---- underscores
 
-without_underscores-leads : (n : ℕ) (digits : List ℕ) → get_or digits 0 0 ≢ 95 → without_underscores (replicate n 95 ++ digits) ≡ digits
+without_underscores-leads : (n : ℕ) (digits : List ℕ) → get_or digits 0 0 ≢ 95
+    → without_underscores (replicate n 95 ++ digits) ≡ digits
 without_underscores-leads zero [] h = refl
 without_underscores-leads zero (d ∷ digits) h = cond-false (d == 95) _ _ (ne_eqb d 95 h)
 without_underscores-leads (suc n) digits h = without_underscores-leads n digits h
@@ -66,10 +69,14 @@ leads_all (b ∷ bytes) =
     (λ _. record { count = 0; split = refl })
 
 length-leads : (bytes digits : List ℕ) (l : Leads bytes digits) → length bytes ≡ l.count + length digits
-length-leads bytes digits l = ap length l.split ∙ length-append (replicate l.count 95) digits ∙ ap (λ n. n + length digits) (length-replicate l.count 95)
+length-leads bytes digits l =
+    ap length l.split ∙ length-append (replicate l.count 95) digits
+    ∙ ap (λ n. n + length digits) (length-replicate l.count 95)
 
-pub like_parts : (b : ℕ) (bytes : List ℕ) → is_array_like (b ∷ bytes) ≡ true → (b ≡ 35) × (are_digits (without_underscores bytes) ≡ true)
-like_parts b bytes h = let parts = and_parts (b == 35) (are_digits (without_underscores bytes)) h in (eqb-true b 35 parts.0, parts.1)
+pub like_parts : (b : ℕ) (bytes : List ℕ) → is_array_like (b ∷ bytes) ≡ true
+    → (b ≡ 35) × (are_digits (without_underscores bytes) ≡ true)
+like_parts b bytes h =
+    let parts = and_parts (b == 35) (are_digits (without_underscores bytes)) h in (eqb-true b 35 parts.0, parts.1)
 
 -- the digits of a part that looks like an array's
 pub are_digits-like : (part : Part) → is_array_like part ≡ true → are_digits (digits_of part) ≡ true
@@ -77,41 +84,51 @@ are_digits-like [] like = absurd cc
 are_digits-like (b ∷ bytes) like = (like_parts b bytes like).1
 
 -- its bytes are the sign, the underscores and the digits
-pub length-like : (part : Part) → is_array_like part ≡ true → length part ≡ 1 + underscores_of part + length (digits_of part)
+pub length-like : (part : Part) → is_array_like part ≡ true
+    → length part ≡ 1 + underscores_of part + length (digits_of part)
 length-like [] like = absurd cc
-length-like (b ∷ bytes) like = let total = length-leads bytes (without_underscores bytes) (leads_all bytes) in omega (arith, total)
+length-like (b ∷ bytes) like =
+    let total = length-leads bytes (without_underscores bytes) (leads_all bytes) in omega (arith, total)
 
 -- ---- the part of an index's digits
 
 length-part_of_digits : (digits : List ℕ) → length (part_of_digits digits) ≡ 1 + (length digits - 1) + length digits
-length-part_of_digits digits = omega (arith, length-append (replicate (length digits - 1) 95) digits, length-replicate {A = ℕ} (length digits - 1) 95)
+length-part_of_digits digits =
+    omega (arith, length-append (replicate (length digits - 1) 95) digits, length-replicate {A = ℕ} (length digits - 1) 95)
 
 pub digits_of-part_of_digits : (digits : List ℕ) → are_digits digits ≡ true → digits_of (part_of_digits digits) ≡ digits
 digits_of-part_of_digits digits h = without_underscores-leads (length digits - 1) digits (first_digit digits h)
 
-pub is_array_like-part_of_digits : (digits : List ℕ) → are_digits digits ≡ true → is_array_like (part_of_digits digits) ≡ true
+pub is_array_like-part_of_digits : (digits : List ℕ) → are_digits digits ≡ true
+    → is_array_like (part_of_digits digits) ≡ true
 is_array_like-part_of_digits digits h = ap are_digits (digits_of-part_of_digits digits h) ∙ h
 
-pub is_canonical-part_of_digits : (digits : List ℕ) → are_digits digits ≡ true → is_index digits ≡ true → is_canonical (part_of_digits digits) ≡ true
+pub is_canonical-part_of_digits : (digits : List ℕ) → are_digits digits ≡ true → is_index digits ≡ true
+    → is_canonical (part_of_digits digits) ≡ true
 is_canonical-part_of_digits digits h index =
     let own = digits_of-part_of_digits digits h in
     let count : underscores_of (part_of_digits digits) + 1 ≡ length (digits_of (part_of_digits digits)) = omega (arith, some_digits digits h, ap length own, length-part_of_digits digits) in
     and_from (is_index (digits_of (part_of_digits digits))) _ (ap is_index own ∙ index) (eq-eqb _ _ count)
 
-lead_bytes : (n : ℕ) (digits : List ℕ) → AllByRecursion (λ b. (0 < b) × (b < 128)) digits → AllByRecursion (λ b. (0 < b) × (b < 128)) (replicate n 95 ++ digits)
+lead_bytes : (n : ℕ) (digits : List ℕ) → AllByRecursion (λ b. (0 < b) × (b < 128)) digits
+    → AllByRecursion (λ b. (0 < b) × (b < 128)) (replicate n 95 ++ digits)
 lead_bytes zero digits h = h
 lead_bytes (suc n) digits h = ((lit< tt, lit< tt), lead_bytes n digits h)
 
 -- its bytes are ASCII
-pub ascii-part_of_digits : (digits : List ℕ) → are_digits digits ≡ true → AllByRecursion (λ b. (0 < b) × (b < 128)) (part_of_digits digits)
-ascii-part_of_digits digits h = ((lit< tt, lit< tt), lead_bytes (length digits - 1) digits (digit_bytes digits (and_parts (nat_lt 0 (length digits)) _ h).1))
+pub ascii-part_of_digits : (digits : List ℕ) → are_digits digits ≡ true
+    → AllByRecursion (λ b. (0 < b) × (b < 128)) (part_of_digits digits)
+ascii-part_of_digits digits h =
+    ((lit< tt, lit< tt), lead_bytes (length digits - 1) digits (digit_bytes digits (and_parts (nat_lt 0 (length digits)) _ h).1))
 
 -- ---- canonical parts
 
 underscores_own : (part : Part) → is_canonical part ≡ true → underscores_of part + 1 ≡ length (digits_of part)
 underscores_own part h = eqb-true _ _ (and_parts (is_index (digits_of part)) _ h).1
 
-full_bytes : (bytes : List ℕ) → length bytes + 1 ≡ length (without_underscores bytes) + length (without_underscores bytes) → 35 ∷ bytes ≡ part_of_digits (without_underscores bytes)
+full_bytes : (bytes : List ℕ)
+    → length bytes + 1 ≡ length (without_underscores bytes) + length (without_underscores bytes)
+    → 35 ∷ bytes ≡ part_of_digits (without_underscores bytes)
 full_bytes bytes full =
     let digits = without_underscores bytes in
     let leads = leads_all bytes in
@@ -120,14 +137,18 @@ full_bytes bytes full =
     ap (λ b. 35 ∷ b) (leads.split ∙ ap (λ n. replicate n 95 ++ digits) count)
 
 -- a canonical part is that of its digits
-pub canonical_is_own : (part : Part) → is_array_like part ≡ true → is_canonical part ≡ true → part ≡ part_of_digits (digits_of part)
+pub canonical_is_own : (part : Part) → is_array_like part ≡ true → is_canonical part ≡ true
+    → part ≡ part_of_digits (digits_of part)
 canonical_is_own [] like h = absurd cc
 canonical_is_own (b ∷ bytes) like h =
-    ap (λ b. b ∷ bytes) (like_parts b bytes like).0 ∙ full_bytes bytes (omega (arith, length-like (b ∷ bytes) like, underscores_own (b ∷ bytes) h))
+    ap (λ b. b ∷ bytes) (like_parts b bytes like).0
+    ∙ full_bytes bytes (omega (arith, length-like (b ∷ bytes) like, underscores_own (b ∷ bytes) h))
 
-pub canonical_part-own : (part : Part) → is_array_like part ≡ true → is_canonical part ≡ true → canonical_part part ≡ Some part
+pub canonical_part-own : (part : Part) → is_array_like part ≡ true → is_canonical part ≡ true
+    → canonical_part part ≡ Some part
 canonical_part-own part like h =
-    cond-true (is_canonical part || is_bare part) _ None (or_left (is_canonical part) (is_bare part) h) ∙ ap (λ p. Some p) (sym (canonical_is_own part like h))
+    cond-true (is_canonical part || is_bare part) _ None (or_left (is_canonical part) (is_bare part) h)
+    ∙ ap (λ p. Some p) (sym (canonical_is_own part like h))
 
 -- what an array-like part stands for
 pub record StandsFor (part canonical : Part) : Type 0 where
@@ -147,7 +168,8 @@ canonical_part-from part canonical h =
 
 -- ---- the index
 
-one_zero : (ds : List ℕ) → decimal (digits_value 10 ds) ≡ ds → digits_value 10 ds < 2 ^ 64 → get_or ds 0 0 ≡ 48 → length ds ≡ 1
+one_zero : (ds : List ℕ) → decimal (digits_value 10 ds) ≡ ds → digits_value 10 ds < 2 ^ 64 → get_or ds 0 0 ≡ 48
+    → length ds ≡ 1
 one_zero ds spelled small zero_first =
     elim (cases_zero (digits_value 10 ds)) [
       | inl none ↦ ap length (sym spelled ∙ ap decimal none ∙ decimal_digit 0 (lit< tt))
@@ -159,7 +181,8 @@ one_zero ds spelled small zero_first =
     cases_zero (suc n) = inr (omega arith)
 
 -- digits that are an index are its decimal
-index_spelled : (ds : List ℕ) → are_digits ds ≡ true → is_index ds ≡ true → (digits_value 10 ds ≤ last_index) × (decimal (digits_value 10 ds) ≡ ds)
+index_spelled : (ds : List ℕ) → are_digits ds ≡ true → is_index ds ≡ true
+    → (digits_value 10 ds ≤ last_index) × (decimal (digits_value 10 ds) ≡ ds)
 index_spelled ds digits index =
     let tests = and_parts (not (has_leading_zero ds)) _ index in
     let within = leb-true (digits_value 10 ds) last_index tests.1 in
@@ -175,7 +198,8 @@ index_spelled ds digits index =
         ]
 
 -- and the decimal of an index is such
-pub index_decimal : (index : ℕ) → index ≤ last_index → (are_digits (decimal index) ≡ true) × (is_index (decimal index) ≡ true)
+pub index_decimal : (index : ℕ) → index ≤ last_index
+    → (are_digits (decimal index) ≡ true) × (is_index (decimal index) ≡ true)
 index_decimal index within =
     let small : index < 2 ^ 64 = omega (arith, within) in
     let numeral = decimal_is_IsNumeral index small in
@@ -187,7 +211,8 @@ index_decimal index within =
           (ap (λ n. nat_le n last_index) numeral.1 ∙ le-leb index last_index within),
     )
   where
-    all_digits : (ds : List ℕ) → ((k : ℕ) → k < length ds → IsInRange 48 57 (get_or ds k 0)) → list_all is_ascii_digit ds ≡ true
+    all_digits : (ds : List ℕ) → ((k : ℕ) → k < length ds → IsInRange 48 57 (get_or ds k 0))
+        → list_all is_ascii_digit ds ≡ true
     all_digits [] h = refl
     all_digits (d ∷ ds) h =
         let range = h 0 (omega arith) in
@@ -201,7 +226,8 @@ index_decimal index within =
         ]
 
 -- a part stands for an item of an array exactly where it is the part of an index
-pub IsArrayPart-index : (part : Part) → IsArrayPart part → (index : ℕ) × (index ≤ last_index) × (part ≡ array_part index)
+pub IsArrayPart-index : (part : Part) → IsArrayPart part
+    → (index : ℕ) × (index ≤ last_index) × (part ≡ array_part index)
 IsArrayPart-index part is =
     let tests = and_parts (is_array_like part) (is_canonical part) is in
     let digits = digits_of part in
@@ -222,7 +248,8 @@ index_of part = digits_value 10 (digits_of part)
 index_of-array_part : (index : ℕ) → index ≤ last_index → index_of (array_part index) ≡ index
 index_of-array_part index within =
     let small : index < 2 ^ 64 = omega (arith, within) in
-    ap (digits_value 10) (digits_of-part_of_digits (decimal index) ((index_decimal index within).0)) ∙ (decimal_is_IsNumeral index small).1
+    ap (digits_value 10) (digits_of-part_of_digits (decimal index) ((index_decimal index within).0))
+    ∙ (decimal_is_IsNumeral index small).1
 
 pub array_part-once : (i j : ℕ) → i ≤ last_index → j ≤ last_index → array_part i ≡ array_part j → i ≡ j
 array_part-once i j p q e = sym (index_of-array_part i p) ∙ ap index_of e ∙ index_of-array_part j q

@@ -22,9 +22,11 @@ module _ {A : Type 0} {C : A → A → Ordering} (E : A → A → Bool) (o : IsT
   front_not_behind [] (x ∷ xs) h = refl
   front_not_behind (z ∷ zs) [] h = absurd h
   front_not_behind (z ∷ zs) (x ∷ xs) h =
-      ap (λ r. is_lt (ordering_then r (slice_cmp C xs zs))) (ap (C x) (same z x (first _ _ h)) ∙ tied_itself o x) ∙ front_not_behind zs xs (second _ _ h)
+      ap (λ r. is_lt (ordering_then r (slice_cmp C xs zs))) (ap (C x) (same z x (first _ _ h)) ∙ tied_itself o x)
+      ∙ front_not_behind zs xs (second _ _ h)
 
-  front_between : (zs xs ys : List A) → T (starts_with E ys zs) → slice_cmp C xs ys ≡ Less → is_lt (slice_cmp C xs zs) ≡ false → T (starts_with E xs zs)
+  front_between : (zs xs ys : List A) → T (starts_with E ys zs) → slice_cmp C xs ys ≡ Less
+      → is_lt (slice_cmp C xs zs) ≡ false → T (starts_with E xs zs)
   front_between [] xs ys h before not_before = tt
   front_between (z ∷ zs) xs [] h before not_before = absurd h
   front_between (z ∷ zs) [] (y ∷ ys) h before not_before = absurd cc
@@ -53,7 +55,8 @@ at_or_below-not_before above name h =
     ∙ front_not_behind (pointwise nat_eq) nat_list_cmp_total part_ties same_part part_itself above.parts name.parts (second _ _ h)
 
 -- a name that is not before it, and before one of them, is one of them
-pub at_or_below-between : (above x y : Name) → T (is_at_or_below above y) → name_cmp x y ≡ Less → is_lt (name_cmp x above) ≡ false → T (is_at_or_below above x)
+pub at_or_below-between : (above x y : Name) → T (is_at_or_below above y) → name_cmp x y ≡ Less
+    → is_lt (name_cmp x above) ≡ false → T (is_at_or_below above x)
 at_or_below-between above x y h before not_before =
     let ranks : rank y.namespace ≡ rank above.namespace = eqb-true _ _ (true_of _ (first _ _ h)) in
     let nearer : ordering_then (nat_cmp (rank x.namespace) (rank above.namespace)) (slice_cmp part_cmp x.parts y.parts) ≡ Less = ap (λ k. ordering_then (nat_cmp (rank x.namespace) k) (slice_cmp part_cmp x.parts y.parts)) (sym ranks) ∙ before in

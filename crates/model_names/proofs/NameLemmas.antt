@@ -56,7 +56,8 @@ onto-empty (b ∷ bytes) raws = ap (onto_first b) (onto-empty bytes raws)
 
 ordinary_raw : (b : ℕ) (rest : List ℕ) → b ≢ 92 → b ≢ 47 → raw_parts (b ∷ rest) ≡ onto_first b (raw_parts rest)
 ordinary_raw b rest no_backslash no_slash =
-    ap (λ t. put_before (b == 47) b (raw_parts_from t rest)) (ne_eqb b 92 no_backslash) ∙ ap (λ t. put_before t b (raw_parts rest)) (ne_eqb b 47 no_slash)
+    ap (λ t. put_before (b == 47) b (raw_parts_from t rest)) (ne_eqb b 92 no_backslash)
+    ∙ ap (λ t. put_before t b (raw_parts rest)) (ne_eqb b 47 no_slash)
 
 -- an escaped byte belongs to the raw part that it stands in
 raw_parts-escaped : (b : ℕ) (rest : List ℕ) → raw_parts (escaped b ++ rest) ≡ onto (escaped b) (raw_parts rest)
@@ -66,13 +67,17 @@ raw_parts-escaped b rest =
       | inr e ↦
           let bytes : escaped b ≡ b ∷ [] = cond-false _ _ _ e in
           let other = or_parts (b == 92) (b == 47) e in
-          ap (λ t. raw_parts (t ++ rest)) bytes ∙ ordinary_raw b rest (eqb-false b 92 other.0) (eqb-false b 47 other.1) ∙ ap (λ t. onto t (raw_parts rest)) (sym bytes)
+          ap (λ t. raw_parts (t ++ rest)) bytes ∙ ordinary_raw b rest (eqb-false b 92 other.0) (eqb-false b 47 other.1)
+          ∙ ap (λ t. onto t (raw_parts rest)) (sym bytes)
     ]
 
-raw_parts-all_escaped : (part rest : List ℕ) → raw_parts (flat_map escaped part ++ rest) ≡ onto (flat_map escaped part) (raw_parts rest)
+raw_parts-all_escaped : (part rest : List ℕ)
+    → raw_parts (flat_map escaped part ++ rest) ≡ onto (flat_map escaped part) (raw_parts rest)
 raw_parts-all_escaped [] rest = refl
 raw_parts-all_escaped (b ∷ part) rest =
-    ap raw_parts (append_assoc (escaped b) (flat_map escaped part) rest) ∙ raw_parts-escaped b (flat_map escaped part ++ rest) ∙ ap (onto (escaped b)) (raw_parts-all_escaped part rest) ∙ sym (onto-append (escaped b) (flat_map escaped part) (raw_parts rest))
+    ap raw_parts (append_assoc (escaped b) (flat_map escaped part) rest)
+    ∙ raw_parts-escaped b (flat_map escaped part ++ rest) ∙ ap (onto (escaped b)) (raw_parts-all_escaped part rest)
+    ∙ sym (onto-append (escaped b) (flat_map escaped part) (raw_parts rest))
 
 -- how a part is spelled
 data SpelledAs (part : Part) : Type 0 where
@@ -98,14 +103,17 @@ spelled_as part =
       ]
     ]
 
-pub spelled-text : (part : Part) → (length part == 0) ≡ false → is_reserved part ≡ false → spelled part ≡ flat_map escaped part
-spelled-text part filled ordinary = cond-false (length part == 0) _ _ filled ∙ cond-false (is_reserved part) _ _ ordinary
+pub spelled-text : (part : Part) → (length part == 0) ≡ false → is_reserved part ≡ false
+    → spelled part ≡ flat_map escaped part
+spelled-text part filled ordinary =
+    cond-false (length part == 0) _ _ filled ∙ cond-false (is_reserved part) _ _ ordinary
 
 -- a spelled part is one raw part
 raw_parts-spelled : (part rest : List ℕ) → raw_parts (spelled part ++ rest) ≡ onto (spelled part) (raw_parts rest)
 raw_parts-spelled part rest = by (spelled_as part)
   where
-    at : (bytes : List ℕ) → spelled part ≡ bytes → raw_parts (bytes ++ rest) ≡ onto bytes (raw_parts rest) → raw_parts (spelled part ++ rest) ≡ onto (spelled part) (raw_parts rest)
+    at : (bytes : List ℕ) → spelled part ≡ bytes → raw_parts (bytes ++ rest) ≡ onto bytes (raw_parts rest)
+        → raw_parts (spelled part ++ rest) ≡ onto (spelled part) (raw_parts rest)
     at bytes e h = ap (λ t. raw_parts (t ++ rest)) e ∙ h ∙ ap (λ t. onto t (raw_parts rest)) (sym e)
 
     by : SpelledAs part → raw_parts (spelled part ++ rest) ≡ onto (spelled part) (raw_parts rest)
@@ -113,17 +121,21 @@ raw_parts-spelled part rest = by (spelled_as part)
     by (AsPercent e) = at (92 ∷ codes "%") (ap spelled e) refl
     by (AsDot e) = at (92 ∷ codes ".") (ap spelled e) refl
     by (AsDots e) = at (92 ∷ codes "..") (ap spelled e) refl
-    by (AsText filled ordinary) = at (flat_map escaped part) (spelled-text part filled ordinary) (raw_parts-all_escaped part rest)
+    by (AsText filled ordinary) =
+        at (flat_map escaped part) (spelled-text part filled ordinary) (raw_parts-all_escaped part rest)
 
 -- the parts of a path are its raw parts
-raw_parts-path : (part : Part) (parts : List Part) → raw_parts (spelled part ++ flat_map (λ p. 47 ∷ spelled p) parts) ≡ spelled part ∷ map spelled parts
+raw_parts-path : (part : Part) (parts : List Part)
+    → raw_parts (spelled part ++ flat_map (λ p. 47 ∷ spelled p) parts) ≡ spelled part ∷ map spelled parts
 raw_parts-path part [] = raw_parts-spelled part [] ∙ onto-empty (spelled part) []
 raw_parts-path part (next ∷ parts) =
-    raw_parts-spelled part (47 ∷ spelled next ++ flat_map (λ p. 47 ∷ spelled p) parts) ∙ onto-empty (spelled part) _ ∙ ap (λ raws. spelled part ∷ raws) (raw_parts-path next parts)
+    raw_parts-spelled part (47 ∷ spelled next ++ flat_map (λ p. 47 ∷ spelled p) parts) ∙ onto-empty (spelled part) _
+    ∙ ap (λ raws. spelled part ∷ raws) (raw_parts-path next parts)
 
 -- ---- what a spelled part means
 
-ordinary_read : (b : ℕ) (bytes part : List ℕ) → b ≢ 92 → unescaped bytes ≡ Some part → unescaped (b ∷ bytes) ≡ Some (b ∷ part)
+ordinary_read : (b : ℕ) (bytes part : List ℕ) → b ≢ 92 → unescaped bytes ≡ Some part
+    → unescaped (b ∷ bytes) ≡ Some (b ∷ part)
 ordinary_read b bytes part other h = unescaped-plain b bytes other ∙ ap (option_map (λ part. b ∷ part)) h
 
 -- the escapes of a part are read as the part
@@ -133,17 +145,23 @@ unescaped-escaped (b ∷ part) =
     elim (cases_Bool ((b == 92) || (b == 47))) [
       | inl e ↦
           let bytes : escaped b ≡ 92 ∷ b ∷ [] = cond-true _ _ _ e in
-          ap (λ t. unescaped (t ++ flat_map escaped part)) bytes ∙ unescaped-escape b (flat_map escaped part) ∙ cond-true ((b == 92) || (b == 47)) _ _ e ∙ ap (option_map (λ part. b ∷ part)) (unescaped-escaped part)
+          ap (λ t. unescaped (t ++ flat_map escaped part)) bytes ∙ unescaped-escape b (flat_map escaped part)
+          ∙ cond-true ((b == 92) || (b == 47)) _ _ e ∙ ap (option_map (λ part. b ∷ part)) (unescaped-escaped part)
       | inr e ↦
           let bytes : escaped b ≡ b ∷ [] = cond-false _ _ _ e in
-          ap (λ t. unescaped (t ++ flat_map escaped part)) bytes ∙ ordinary_read b (flat_map escaped part) part (eqb-false b 92 (or_parts (b == 92) (b == 47) e).0) (unescaped-escaped part)
+          ap (λ t. unescaped (t ++ flat_map escaped part)) bytes
+          ∙ ordinary_read b (flat_map escaped part) part (eqb-false b 92 (or_parts (b == 92) (b == 47) e).0) (unescaped-escaped part)
     ]
 
-other_raw : (raw text : List ℕ) (part : Part) → unescaped raw ≡ Some part → (unescaped text ≡ Some part → ⊥) → is_text raw text ≡ false
-other_raw raw text part reads apart = false_from_ne_true (is_text raw text) (λ e. apart (sym (ap unescaped (same_text raw text e)) ∙ reads))
+other_raw : (raw text : List ℕ) (part : Part) → unescaped raw ≡ Some part → (unescaped text ≡ Some part → ⊥)
+    → is_text raw text ≡ false
+other_raw raw text part reads apart =
+    false_from_ne_true (is_text raw text) (λ e. apart (sym (ap unescaped (same_text raw text e)) ∙ reads))
 
-not_empty : (raw : List ℕ) (part : Part) → unescaped raw ≡ Some part → (length part == 0) ≡ false → (length raw == 0) ≡ false
-not_empty [] part reads filled = let none = ap length (some_is [] part reads) in absurd (true≢false (ap (λ n. n == 0) none ∙ filled))
+not_empty : (raw : List ℕ) (part : Part) → unescaped raw ≡ Some part → (length part == 0) ≡ false
+    → (length raw == 0) ≡ false
+not_empty [] part reads filled =
+    let none = ap length (some_is [] part reads) in absurd (true≢false (ap (λ n. n == 0) none ∙ filled))
 not_empty (b ∷ raw) part reads filled = ne_eqb (length (b ∷ raw)) 0 (omega arith)
 
 not_reserved : (text part : Part) → is_text part text ≡ false → ◌≡◌ {A = Option Part} (Some text) (Some part) → ⊥
@@ -156,7 +174,8 @@ part_is_read part h =
       | inr other ↦ cond-false (is_array_like part) (canonical_part part) (Some part) other
     ]
 
-meaning-text : (part : Part) → IsPart part → (length part == 0) ≡ false → is_reserved part ≡ false → meaning (flat_map escaped part) ≡ Some (Adds part)
+meaning-text : (part : Part) → IsPart part → (length part == 0) ≡ false → is_reserved part ≡ false
+    → meaning (flat_map escaped part) ≡ Some (Adds part)
 meaning-text part h filled ordinary =
     let raw = flat_map escaped part in
     let reads = unescaped-escaped part in
@@ -177,7 +196,8 @@ meaning-text part h filled ordinary =
 pub meaning-spelled : (part : Part) → IsPart part → meaning (spelled part) ≡ Some (Adds part)
 meaning-spelled part h = by (spelled_as part)
   where
-    at : (text : Part) (bytes : List ℕ) → part ≡ text → spelled text ≡ bytes → meaning bytes ≡ Some (Adds text) → meaning (spelled part) ≡ Some (Adds part)
+    at : (text : Part) (bytes : List ℕ) → part ≡ text → spelled text ≡ bytes → meaning bytes ≡ Some (Adds text)
+        → meaning (spelled part) ≡ Some (Adds part)
     at text bytes e same m = ap (λ p. meaning (spelled p)) e ∙ ap meaning same ∙ m ∙ ap (λ p. Some (Adds p)) (sym e)
 
     by : SpelledAs part → meaning (spelled part) ≡ Some (Adds part)
@@ -187,15 +207,18 @@ meaning-spelled part h = by (spelled_as part)
     by (AsDots e) = at (codes "..") (92 ∷ codes "..") e refl refl
     by (AsText filled ordinary) = ap meaning (spelled-text part filled ordinary) ∙ meaning-text part h filled ordinary
 
-walked-spelled : (path parts : List Part) → AllByRecursion IsPart parts → walked path (map spelled parts) ≡ Some (path ++ parts)
+walked-spelled : (path parts : List Part) → AllByRecursion IsPart parts
+    → walked path (map spelled parts) ≡ Some (path ++ parts)
 walked-spelled path [] h = ap (λ p. Some p) (sym (append-nil path))
 walked-spelled path (part ∷ parts) h =
-    ap (option_and_then (λ move. walked (moved path move) (map spelled parts))) (meaning-spelled part h.0) ∙ walked-spelled (path ++ part ∷ []) parts h.1 ∙ ap (λ p. Some p) (append_assoc path (part ∷ []) parts)
+    ap (option_and_then (λ move. walked (moved path move) (map spelled parts))) (meaning-spelled part h.0)
+    ∙ walked-spelled (path ++ part ∷ []) parts h.1 ∙ ap (λ p. Some p) (append_assoc path (part ∷ []) parts)
 
 -- ---- its bytes
 
 IsText-append : (a b : List ℕ) → IsText a → IsText b → IsText (a ++ b)
-IsText-append a b p q = record { utf8 = IsUtf8-append a b p.utf8 q.utf8; no_nul = all_append (λ b. 0 < b) a b p.no_nul q.no_nul }
+IsText-append a b p q =
+    record { utf8 = IsUtf8-append a b p.utf8 q.utf8; no_nul = all_append (λ b. 0 < b) a b p.no_nul q.no_nul }
 
 escaped_letter : (c : ℕ) → IsUtf8 (encode_utf8 c) → IsUtf8 (flat_map escaped (encode_utf8 c))
 escaped_letter c letter =
@@ -208,7 +231,8 @@ escaped_letter c letter =
     ]
   where
     at : (b : ℕ) → c ≡ b → b < 128 → IsUtf8 (flat_map escaped (b ∷ [])) → IsUtf8 (flat_map escaped (encode_utf8 c))
-    at b e small h = subst (λ (t : List ℕ). IsUtf8 (flat_map escaped t)) (sym (encode_ascii c (omega arith) ∙ ap (λ b. b ∷ []) e)) h
+    at b e small h =
+        subst (λ (t : List ℕ). IsUtf8 (flat_map escaped t)) (sym (encode_ascii c (omega arith) ∙ ap (λ b. b ∷ []) e)) h
 
 escaped_utf8 : (letters : List ℕ) → all_scalars letters ≡ true → IsUtf8 (flat_map escaped (encode_utf8_all letters))
 escaped_utf8 [] scalars = IsUtf8-nil
@@ -268,7 +292,11 @@ record LeadsTo (parts : List Part) : Type 0 where
 path_leads : (parts : List Part) → AllByRecursion IsPart parts → LeadsTo parts
 path_leads [] h = record { rest = []; cut = refl; leads = refl }
 path_leads (part ∷ parts) h =
-    record { rest = spelled part ++ flat_map (λ p. 47 ∷ spelled p) parts; cut = refl; leads = ap (walked []) (raw_parts-path part parts) ∙ walked-spelled [] (part ∷ parts) h }
+    record {
+      rest = spelled part ++ flat_map (λ p. 47 ∷ spelled p) parts;
+      cut = refl;
+      leads = ap (walked []) (raw_parts-path part parts) ∙ walked-spelled [] (part ∷ parts) h;
+    }
 
 pub spelling_spells : (name : Name) → IsName name → Spells (spelling name) name
 spelling_spells name h =
@@ -285,12 +313,14 @@ spelling_spells name h =
 
 -- two well-formed names of one spelling are one
 pub one_spelling : (a b : Name) → IsName a → IsName b → spelling a ≡ spelling b → a ≡ b
-one_spelling a b p q e = Spells-once (spelling a) a b (spelling_spells a p) (subst (λ (t : List ℕ). Spells t b) (sym e) (spelling_spells b q))
+one_spelling a b p q e =
+    Spells-once (spelling a) a b (spelling_spells a p) (subst (λ (t : List ℕ). Spells t b) (sym e) (spelling_spells b q))
 
 -- ---- the slash in front
 
 -- a text that begins with a slash spells a cascading name
-pub slash_is_cascading : (text : List ℕ) (name : Name) → begins_with_slash text ≡ true → Spells text name → name.namespace ≡ Cascading
+pub slash_is_cascading : (text : List ℕ) (name : Name) → begins_with_slash text ≡ true → Spells text name
+    → name.namespace ≡ Cascading
 slash_is_cascading text name begins h =
     let slash = slash_begins text begins in
     sym (same_cut Cascading name.namespace slash.0 h.rest (sym slash.1 ∙ h.cut)).0
@@ -314,8 +344,10 @@ path-slash (part ∷ parts) = refl
 pub relative_text-spelling : (name : Name) → name.namespace ≡ Cascading → spelling name ≡ 47 ∷ relative_text name
 relative_text-spelling name cascading = ap (λ (n : Namespace). word_of n ++ path name) cascading ∙ path-slash name.parts
 
-pub relative_text-spells : (name : Name) → IsName name → name.namespace ≡ Cascading → Spells (47 ∷ relative_text name) name
-relative_text-spells name is cascading = subst (λ t. Spells t name) (relative_text-spelling name cascading) (spelling_spells name is)
+pub relative_text-spells : (name : Name) → IsName name → name.namespace ≡ Cascading
+    → Spells (47 ∷ relative_text name) name
+relative_text-spells name is cascading =
+    subst (λ t. Spells t name) (relative_text-spelling name cascading) (spelling_spells name is)
 
 pub length-relative_text : (name : Name) → IsName name → length (relative_text name) ≤ longest_path
 length-relative_text name is = let limit = is.limit in omega (arith, length-drop 1 (path name))

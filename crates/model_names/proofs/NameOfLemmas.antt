@@ -17,7 +17,8 @@ use Rattle.model_names.specs.Spells.{Spells, walked}
 use Rattle.model_names.proofs.RefusesLemmas.{refusal_of-spelled, start_of_text-word, Spells-from_no_refusal}
 use Rattle.model_names.proofs.SpellsLemmas.{drop-word}
 
-namespace_before-word : (n : Namespace) (rest : List ℕ) → namespace_before (word_of n ++ 47 ∷ rest) (length (word_of n)) ≡ Some n
+namespace_before-word : (n : Namespace) (rest : List ℕ)
+    → namespace_before (word_of n ++ 47 ∷ rest) (length (word_of n)) ≡ Some n
 namespace_before-word Cascading rest = refl
 namespace_before-word Spec rest = refl
 namespace_before-word Proc rest = refl
@@ -26,7 +27,8 @@ namespace_before-word User rest = refl
 namespace_before-word System rest = refl
 namespace_before-word Default rest = refl
 
-name_behind-word : (name : Name) (rest : List ℕ) → walked [] (raw_parts rest) ≡ Some name.parts → name_behind (word_of name.namespace ++ 47 ∷ rest) (length (word_of name.namespace)) ≡ Some name
+name_behind-word : (name : Name) (rest : List ℕ) → walked [] (raw_parts rest) ≡ Some name.parts
+    → name_behind (word_of name.namespace ++ 47 ∷ rest) (length (word_of name.namespace)) ≡ Some name
 name_behind-word name rest leads =
     let n = name.namespace in
     ap (option_and_then (λ namespace. option_map (λ parts. record { namespace = namespace; parts = parts }) (walked [] (raw_parts (drop (length (word_of n) + 1) (word_of n ++ 47 ∷ rest)))))) (namespace_before-word n rest)

@@ -15,7 +15,8 @@ use Rattle.std.proofs.lemmas.Bool.Decides.{Decides-eqb}
 use Rattle.general_words.proofs.Deciding.{said, decided_both}
 
 pub name_cmp_total : IsTotalOrder name_cmp
-name_cmp_total = then_total (on_total (λ (n : Name). rank n.namespace) nat_cmp_total) (on_total (λ (n : Name). n.parts) (lists_total nat_list_cmp_total))
+name_cmp_total =
+    then_total (on_total (λ (n : Name). rank n.namespace) nat_cmp_total) (on_total (λ (n : Name). n.parts) (lists_total nat_list_cmp_total))
 
 pub same_rank : (m n : Namespace) → rank m ≡ rank n → m ≡ n
 same_rank m n e = sym (namespace_at-rank m) ∙ ap namespace_at e ∙ namespace_at-rank n

@@ -33,10 +33,12 @@ pub record IsText (bytes : List ℕ) : Type 0 where
   pub no_nul : AllByRecursion (λ b. 0 < b) bytes
 
 IsUtf8-tail : (b : ℕ) (bytes : List ℕ) → b < 128 → IsUtf8 (b ∷ bytes) → IsUtf8 bytes
-IsUtf8-tail b bytes small h = IsUtf8-drop (b ∷ bytes) 1 h (IsCharBoundary-after_ascii (b ∷ bytes) 0 h (omega arith) small)
+IsUtf8-tail b bytes small h =
+    IsUtf8-drop (b ∷ bytes) 1 h (IsCharBoundary-after_ascii (b ∷ bytes) 0 h (omega arith) small)
 
 pub IsUtf8-byte : (b : ℕ) → b < 128 → IsUtf8 (b ∷ [])
-IsUtf8-byte b small = IsUtf8-from_ascii (b ∷ []) (IsAscii-from_all (b ∷ []) (All-from_recursion (λ b. b < 128) (b ∷ []) (small, tt)))
+IsUtf8-byte b small =
+    IsUtf8-from_ascii (b ∷ []) (IsAscii-from_all (b ∷ []) (All-from_recursion (λ b. b < 128) (b ∷ []) (small, tt)))
 
 pub IsUtf8-cons : (b : ℕ) (bytes : List ℕ) → b < 128 → IsUtf8 bytes → IsUtf8 (b ∷ bytes)
 IsUtf8-cons b bytes small h = IsUtf8-append (b ∷ []) bytes (IsUtf8-byte b small) h
@@ -47,7 +49,11 @@ all_front P [] ys h = tt
 all_front P (x ∷ xs) ys h = (h.0, all_front P xs ys h.1)
 
 pub text_from_ascii : (bytes : List ℕ) → AllByRecursion (λ b. (0 < b) × (b < 128)) bytes → IsText bytes
-text_from_ascii bytes h = record { utf8 = IsUtf8-from_ascii bytes (IsAscii-from_all bytes (All-from_recursion (λ b. b < 128) bytes (all_small bytes h))); no_nul = all_some bytes h }
+text_from_ascii bytes h =
+    record {
+      utf8 = IsUtf8-from_ascii bytes (IsAscii-from_all bytes (All-from_recursion (λ b. b < 128) bytes (all_small bytes h)));
+      no_nul = all_some bytes h;
+    }
   where
     all_small : (bytes : List ℕ) → AllByRecursion (λ b. (0 < b) × (b < 128)) bytes → AllByRecursion (λ b. b < 128) bytes
     all_small [] h = tt
@@ -61,7 +67,10 @@ text_from_ascii bytes h = record { utf8 = IsUtf8-from_ascii bytes (IsAscii-from_
 pub text_from_test : (bytes : List ℕ) → list_all is_ascii_text_byte bytes ≡ true → IsText bytes
 text_from_test bytes h =
     let pass = recursion_from_All (λ b. is_ascii_text_byte b ≡ true) bytes (AllPass-from_list_all is_ascii_text_byte bytes h) in
-    record { utf8 = IsUtf8-from_ascii bytes (IsAscii-from_all bytes (All-from_recursion (λ b. b < 128) bytes (is_ascii-from_test bytes pass))); no_nul = no_nul-from_test bytes pass }
+    record {
+      utf8 = IsUtf8-from_ascii bytes (IsAscii-from_all bytes (All-from_recursion (λ b. b < 128) bytes (is_ascii-from_test bytes pass)));
+      no_nul = no_nul-from_test bytes pass;
+    }
 
 at_seam : (xs ys : List ℕ) → get_or (xs ++ 47 ∷ ys) (length xs) 0 ≡ 47
 at_seam [] ys = refl
@@ -84,10 +93,13 @@ utf8_behind_slash xs ys h =
 -- ---- raw parts
 
 -- raw parts with a slash before each are the text again
-slashed-put_before : (cuts : Bool) (b : ℕ) (bytes : List ℕ) (raws : List (List ℕ)) → (cuts ≡ true → b ≡ 47) → flat_map (λ raw. 47 ∷ raw) raws ≡ 47 ∷ bytes → flat_map (λ raw. 47 ∷ raw) (put_before cuts b raws) ≡ 47 ∷ b ∷ bytes
+slashed-put_before : (cuts : Bool) (b : ℕ) (bytes : List ℕ) (raws : List (List ℕ)) → (cuts ≡ true → b ≡ 47)
+    → flat_map (λ raw. 47 ∷ raw) raws ≡ 47 ∷ bytes
+    → flat_map (λ raw. 47 ∷ raw) (put_before cuts b raws) ≡ 47 ∷ b ∷ bytes
 slashed-put_before true b bytes raws slash h = ap (λ t. 47 ∷ t) h ∙ ap (λ b. 47 ∷ b ∷ bytes) (sym (slash refl))
 slashed-put_before false b bytes [] slash h = absurd cc
-slashed-put_before false b bytes (raw ∷ raws) slash h = ap (λ t. 47 ∷ b ∷ t) (behind (raw ++ flat_map (λ raw. 47 ∷ raw) raws) bytes h)
+slashed-put_before false b bytes (raw ∷ raws) slash h =
+    ap (λ t. 47 ∷ b ∷ t) (behind (raw ++ flat_map (λ raw. 47 ∷ raw) raws) bytes h)
   where
     behind : (x y : List ℕ) → 47 ∷ x ≡ 47 ∷ y → x ≡ y
     behind x y e = cc
@@ -95,12 +107,14 @@ slashed-put_before false b bytes (raw ∷ raws) slash h = ap (λ t. 47 ∷ b ∷
 cut_is_slash : (is_escaped : Bool) (b : ℕ) → (not is_escaped && (b == 47)) ≡ true → b ≡ 47
 cut_is_slash is_escaped b h = let parts = and_parts (not is_escaped) (b == 47) h in eqb-true b 47 parts.1
 
-pub slashed-raw_parts : (is_escaped : Bool) (bytes : List ℕ) → flat_map (λ raw. 47 ∷ raw) (raw_parts_from is_escaped bytes) ≡ 47 ∷ bytes
+pub slashed-raw_parts : (is_escaped : Bool) (bytes : List ℕ)
+    → flat_map (λ raw. 47 ∷ raw) (raw_parts_from is_escaped bytes) ≡ 47 ∷ bytes
 slashed-raw_parts is_escaped [] = refl
 slashed-raw_parts is_escaped (b ∷ bytes) =
     slashed-put_before (not is_escaped && (b == 47)) b bytes (raw_parts_from (not is_escaped && (b == 92)) bytes) (cut_is_slash is_escaped b) (slashed-raw_parts (not is_escaped && (b == 92)) bytes)
 
-all_texts : (raws : List (List ℕ)) → IsUtf8 (flat_map (λ raw. 47 ∷ raw) raws) → AllByRecursion (λ b. 0 < b) (flat_map (λ raw. 47 ∷ raw) raws) → AllByRecursion IsText raws
+all_texts : (raws : List (List ℕ)) → IsUtf8 (flat_map (λ raw. 47 ∷ raw) raws)
+    → AllByRecursion (λ b. 0 < b) (flat_map (λ raw. 47 ∷ raw) raws) → AllByRecursion IsText raws
 all_texts [] h no_nul = tt
 all_texts (raw ∷ []) h no_nul =
     let whole = append-nil raw in
@@ -113,14 +127,16 @@ all_texts (raw ∷ next ∷ raws) h no_nul =
     )
 
 -- each raw part of a text is a text
-pub IsText-raw_parts : (bytes : List ℕ) → IsUtf8 (47 ∷ bytes) → AllByRecursion (λ b. 0 < b) (47 ∷ bytes) → AllByRecursion IsText (raw_parts_from false bytes)
+pub IsText-raw_parts : (bytes : List ℕ) → IsUtf8 (47 ∷ bytes) → AllByRecursion (λ b. 0 < b) (47 ∷ bytes)
+    → AllByRecursion IsText (raw_parts_from false bytes)
 IsText-raw_parts bytes h no_nul =
     let whole = sym (slashed-raw_parts false bytes) in
     all_texts (raw_parts_from false bytes) (subst (λ (t : List ℕ). IsUtf8 t) whole h) (subst (λ (t : List ℕ). AllByRecursion (λ b. 0 < b) t) whole no_nul)
 
 -- ---- what is unescaped
 
-unescaped_no_nul : (waits : Bool) (raw : List ℕ) (part : Part) → unescaped_from waits raw ≡ Some part → AllByRecursion (λ b. 0 < b) raw → AllByRecursion (λ b. 0 < b) part
+unescaped_no_nul : (waits : Bool) (raw : List ℕ) (part : Part) → unescaped_from waits raw ≡ Some part
+    → AllByRecursion (λ b. 0 < b) raw → AllByRecursion (λ b. 0 < b) part
 unescaped_no_nul false [] part h bytes = subst (λ (t : List ℕ). AllByRecursion (λ b. 0 < b) t) (some_is [] part h) tt
 unescaped_no_nul true [] part h bytes = absurd cc
 unescaped_no_nul true (b ∷ raw) part h bytes =
@@ -134,13 +150,15 @@ unescaped_no_nul false (b ∷ raw) part h bytes =
     subst (λ (t : List ℕ). AllByRecursion (λ b. 0 < b) t) rest.2 (bytes.0, unescaped_no_nul (b == 92) raw rest.0 rest.1 bytes.1))
 
 -- one letter more
-utf8_backslash : (waits : Bool) (left : List ℕ) (part : Part) → unescaped_from waits (92 ∷ left) ≡ Some part → ((waits : Bool) (part : Part) → unescaped_from waits left ≡ Some part → IsUtf8 part) → IsUtf8 part
+utf8_backslash : (waits : Bool) (left : List ℕ) (part : Part) → unescaped_from waits (92 ∷ left) ≡ Some part
+    → ((waits : Bool) (part : Part) → unescaped_from waits left ≡ Some part → IsUtf8 part) → IsUtf8 part
 utf8_backslash false left part h more = more true part h
 utf8_backslash true left part h more =
     let rest = from_map (λ part. 92 ∷ part) (unescaped left) part (sym (unescaped-escape 92 left) ∙ h) in
     subst (λ (t : List ℕ). IsUtf8 t) rest.2 (IsUtf8-cons 92 rest.0 (lit< tt) (more false rest.0 rest.1))
 
-utf8_slash : (waits : Bool) (left : List ℕ) (part : Part) → unescaped_from waits (47 ∷ left) ≡ Some part → ((waits : Bool) (part : Part) → unescaped_from waits left ≡ Some part → IsUtf8 part) → IsUtf8 part
+utf8_slash : (waits : Bool) (left : List ℕ) (part : Part) → unescaped_from waits (47 ∷ left) ≡ Some part
+    → ((waits : Bool) (part : Part) → unescaped_from waits left ≡ Some part → IsUtf8 part) → IsUtf8 part
 utf8_slash false left part h more =
     let rest = from_map (λ part. 47 ∷ part) (unescaped left) part (sym (unescaped-next 47 left) ∙ h) in
     subst (λ (t : List ℕ). IsUtf8 t) rest.2 (IsUtf8-cons 47 rest.0 (lit< tt) (more false rest.0 rest.1))
@@ -148,18 +166,23 @@ utf8_slash true left part h more =
     let rest = from_map (λ part. 47 ∷ part) (unescaped left) part (sym (unescaped-escape 47 left) ∙ h) in
     subst (λ (t : List ℕ). IsUtf8 t) rest.2 (IsUtf8-cons 47 rest.0 (lit< tt) (more false rest.0 rest.1))
 
-utf8_ordinary : (waits : Bool) (c : ℕ) (left : List ℕ) (part : Part) → c ≢ 92 → c ≢ 47 → IsUtf8 (encode_utf8 c) → unescaped_from waits (encode_utf8 c ++ left) ≡ Some part → ((waits : Bool) (part : Part) → unescaped_from waits left ≡ Some part → IsUtf8 part) → IsUtf8 part
-utf8_ordinary true c left part no_backslash no_slash letter h more = let none = escapes_no_letter c left no_backslash no_slash in absurd (cc)
+utf8_ordinary : (waits : Bool) (c : ℕ) (left : List ℕ) (part : Part) → c ≢ 92 → c ≢ 47 → IsUtf8 (encode_utf8 c)
+    → unescaped_from waits (encode_utf8 c ++ left) ≡ Some part
+    → ((waits : Bool) (part : Part) → unescaped_from waits left ≡ Some part → IsUtf8 part) → IsUtf8 part
+utf8_ordinary true c left part no_backslash no_slash letter h more =
+    let none = escapes_no_letter c left no_backslash no_slash in absurd (cc)
 utf8_ordinary false c left part no_backslash no_slash letter h more =
     let tail = read_all (encode_utf8 c) left (IsUnescaped-encode_utf8 c no_backslash no_slash) part h in
     subst (λ (t : List ℕ). IsUtf8 t) (sym tail.2) (IsUtf8-append (encode_utf8 c) tail.0 letter (more false tail.0 tail.1))
 
-read_letter : (waits : Bool) (c b : ℕ) (left : List ℕ) (part : Part) → c ≡ b → b < 128 → unescaped_from waits (encode_utf8 c ++ left) ≡ Some part → unescaped_from waits (b ∷ left) ≡ Some part
+read_letter : (waits : Bool) (c b : ℕ) (left : List ℕ) (part : Part) → c ≡ b → b < 128
+    → unescaped_from waits (encode_utf8 c ++ left) ≡ Some part → unescaped_from waits (b ∷ left) ≡ Some part
 read_letter waits c b left part e small h =
     let bytes : encode_utf8 c ≡ b ∷ [] = encode_ascii c (omega arith) ∙ ap (λ b. b ∷ []) e in
     sym (ap (λ bytes. unescaped_from waits (bytes ++ left)) bytes) ∙ h
 
-unescaped_utf8 : (letters : List ℕ) (waits : Bool) (part : Part) → all_scalars letters ≡ true → unescaped_from waits (encode_utf8_all letters) ≡ Some part → IsUtf8 part
+unescaped_utf8 : (letters : List ℕ) (waits : Bool) (part : Part) → all_scalars letters ≡ true
+    → unescaped_from waits (encode_utf8_all letters) ≡ Some part → IsUtf8 part
 unescaped_utf8 [] false part scalars h = subst (λ (t : List ℕ). IsUtf8 t) (some_is [] part h) IsUtf8-nil
 unescaped_utf8 [] true part scalars h = absurd cc
 unescaped_utf8 (c ∷ letters) waits part scalars h =
@@ -210,9 +233,11 @@ adds_at : (m n : Move) → ◌≡◌ {A = Option Move} (Some m) (Some n) → Add
 adds_at m n e h = subst AddsPart (some_is m n e) h
 
 plain_part : (part : Part) → IsText part → is_array_like part ≡ false → IsPart part
-plain_part part text other = record { utf8 = text.utf8; no_nul = text.no_nul; canonical = λ like. absurd (true≢false (sym like ∙ other)) }
+plain_part part text other =
+    record { utf8 = text.utf8; no_nul = text.no_nul; canonical = λ like. absurd (true≢false (sym like ∙ other)) }
 
-text_adds : (raw : List ℕ) (move : Move) → IsText raw → option_map Adds (option_and_then part_of_text (unescaped raw)) ≡ Some move → AddsPart move
+text_adds : (raw : List ℕ) (move : Move) → IsText raw
+    → option_map Adds (option_and_then part_of_text (unescaped raw)) ≡ Some move → AddsPart move
 text_adds raw move text h =
     let adds = from_map Adds (option_and_then part_of_text (unescaped raw)) move h in
     let part = from_and_then part_of_text (unescaped raw) adds.0 adds.1 in
@@ -238,13 +263,15 @@ all_take P zero xs h = tt
 all_take P (suc n) [] h = tt
 all_take P (suc n) (x ∷ xs) h = (h.0, all_take P n xs h.1)
 
-moved_parts : (path : List Part) (move : Move) → AllByRecursion IsPart path → AddsPart move → AllByRecursion IsPart (moved path move)
+moved_parts : (path : List Part) (move : Move) → AllByRecursion IsPart path → AddsPart move
+    → AllByRecursion IsPart (moved path move)
 moved_parts path (Adds part) h p = all_append IsPart path (part ∷ []) h (p, tt)
 moved_parts path Stays h p = h
 moved_parts path GoesUp h p = all_take IsPart (length path - 1) path h
 
 -- raw parts of a text lead from well-formed parts to well-formed parts
-pub walked_parts : (path : List Part) (raws : List (List ℕ)) (parts : List Part) → AllByRecursion IsPart path → AllByRecursion IsText raws → walked path raws ≡ Some parts → AllByRecursion IsPart parts
+pub walked_parts : (path : List Part) (raws : List (List ℕ)) (parts : List Part) → AllByRecursion IsPart path
+    → AllByRecursion IsText raws → walked path raws ≡ Some parts → AllByRecursion IsPart parts
 walked_parts path [] parts h texts leads = subst (λ (p : List Part). AllByRecursion IsPart p) (same path parts leads) h
   where
     same : (a b : List Part) → ◌≡◌ {A = Option (List Part)} (Some a) (Some b) → a ≡ b

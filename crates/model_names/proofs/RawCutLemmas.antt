@@ -49,7 +49,8 @@ no_bare-escape b raw none h = by h.before h.split h.whole
 
     by : (before : List ℕ) → 92 ∷ b ∷ raw ≡ before ++ 47 ∷ h.behind → HasWholeEscapes before → ⊥
     by [] e whole = absurd (omega (arith, head_is 92 47 (b ∷ raw) h.behind e))
-    by (c ∷ before) e whole = at before (tail_is _ _ _ _ e) (escape_behind c before (sym (head_is 92 c (b ∷ raw) (before ++ 47 ∷ h.behind) e)) whole)
+    by (c ∷ before) e whole =
+        at before (tail_is _ _ _ _ e) (escape_behind c before (sym (head_is 92 c (b ∷ raw) (before ++ 47 ∷ h.behind) e)) whole)
 
 no_bare-backslash : HasBareSlash (92 ∷ []) → ⊥
 no_bare-backslash h = by h.before h.split
@@ -82,7 +83,8 @@ abbrev pub unescaped_yet : Bool → List (List ℕ) → List (List ℕ)
 unescaped_yet true raws = onto_first 92 raws
 unescaped_yet false raws = raws
 
-pub AreCut-from : (is_escaped : Bool) (bytes : List ℕ) → AreCut (unescaped_yet is_escaped (raw_parts_from is_escaped bytes))
+pub AreCut-from : (is_escaped : Bool) (bytes : List ℕ)
+    → AreCut (unescaped_yet is_escaped (raw_parts_from is_escaped bytes))
 AreCut-from true [] = no_bare-backslash
 AreCut-from false [] = no_bare-nil
 AreCut-from true (b ∷ bytes) = cut-escape b (raw_parts_from false bytes) (AreCut-from false bytes)
@@ -99,7 +101,8 @@ AreCut-from false (b ∷ bytes) =
       ]
     ]
   where
-    step : (s t u v : Bool) → s ≡ u → t ≡ v → put_before s b (raw_parts_from t bytes) ≡ put_before u b (raw_parts_from v bytes)
+    step : (s t u v : Bool) → s ≡ u → t ≡ v
+        → put_before s b (raw_parts_from t bytes) ≡ put_before u b (raw_parts_from v bytes)
     step s t u v e f = (λ i. put_before (e i) b (raw_parts_from (f i) bytes))
 
 pub AreCut-raw_parts : (bytes : List ℕ) → AreCut (raw_parts_from false bytes)

@@ -22,11 +22,13 @@ use Rattle.general_words.proofs.Tests.{cond_off}
 
 -- ---- options
 
-pub from_map : {A B : Type 0} (f : A → B) (o : Option A) (y : B) → option_map f o ≡ Some y → (x : A) × (o ≡ Some x) × (f x ≡ y)
+pub from_map : {A B : Type 0} (f : A → B) (o : Option A) (y : B) → option_map f o ≡ Some y
+    → (x : A) × (o ≡ Some x) × (f x ≡ y)
 from_map f None y h = absurd cc
 from_map f (Some x) y h = (x, refl, cc)
 
-pub from_and_then : {A B : Type 0} (f : A → Option B) (o : Option A) (y : B) → option_and_then f o ≡ Some y → (x : A) × (o ≡ Some x) × (f x ≡ Some y)
+pub from_and_then : {A B : Type 0} (f : A → Option B) (o : Option A) (y : B) → option_and_then f o ≡ Some y
+    → (x : A) × (o ≡ Some x) × (f x ≡ Some y)
 from_and_then f None y h = absurd cc
 from_and_then f (Some x) y h = (x, refl, h)
 
@@ -62,7 +64,9 @@ IsFine-from_meaning place raw move h =
 pub meaning-fine : (place : ℕ) (raw : List ℕ) → IsFine place raw → (move : Move) × (meaning raw ≡ Some move)
 meaning-fine place raw h = by (read_part raw) h.escapes h.arrays
   where
-    by : (r : Result (Option Move) ℕ) → option_map (λ at. place + at) (result_err r) ≡ None → option_and_then (λ move. cond (is_none move) (Some place) None) (result_ok r) ≡ None → (move : Move) × (option_flatten (result_ok r) ≡ Some move)
+    by : (r : Result (Option Move) ℕ) → option_map (λ at. place + at) (result_err r) ≡ None
+        → option_and_then (λ move. cond (is_none move) (Some place) None) (result_ok r) ≡ None
+        → (move : Move) × (option_flatten (result_ok r) ≡ Some move)
     by (Ok None) escapes arrays = absurd cc
     by (Ok (Some move)) escapes arrays = (move, refl)
     by (Err at) escapes arrays = absurd cc
@@ -74,7 +78,8 @@ pub record AreFine (place : ℕ) (raws : List (List ℕ)) : Type 0 where
   pub escapes : first_some bad_escape (placed place raws) ≡ None
   pub arrays : first_some bad_array (placed place raws) ≡ None
 
-pub AreFine-from_walked : (place : ℕ) (raws : List (List ℕ)) (path parts : List Part) → walked path raws ≡ Some parts → AreFine place raws
+pub AreFine-from_walked : (place : ℕ) (raws : List (List ℕ)) (path parts : List Part) → walked path raws ≡ Some parts
+    → AreFine place raws
 AreFine-from_walked place [] path parts h = record { escapes = refl; arrays = refl }
 AreFine-from_walked place (raw ∷ raws) path parts h =
     let move = from_and_then (λ move. walked (moved path move) raws) (meaning raw) parts h in
@@ -85,7 +90,8 @@ AreFine-from_walked place (raw ∷ raws) path parts h =
       arrays = ap (λ o. option_or o (first_some bad_array (placed (place + length raw + 1) raws))) one.arrays ∙ rest.arrays;
     }
 
-pub walked-fine : (place : ℕ) (raws : List (List ℕ)) (path : List Part) → AreFine place raws → (parts : List Part) × (walked path raws ≡ Some parts)
+pub walked-fine : (place : ℕ) (raws : List (List ℕ)) (path : List Part) → AreFine place raws
+    → (parts : List Part) × (walked path raws ≡ Some parts)
 walked-fine place [] path h = (path, refl)
 walked-fine place (raw ∷ raws) path h =
     let escapes = from_or (bad_escape (place, raw)) _ h.escapes in
@@ -98,7 +104,9 @@ walked-fine place (raw ∷ raws) path h =
 
 first_nul-none : (text : List ℕ) → AllByRecursion (λ b. 0 < b) text → position_or_len (λ b. b == 0) text ≡ length text
 first_nul-none [] h = refl
-first_nul-none (b ∷ text) h = ap (λ t. cond (not t) (1 + position_or_len (λ b. b == 0) text) 0) (ne_eqb b 0 (omega (arith, h.0))) ∙ omega (arith, first_nul-none text h.1)
+first_nul-none (b ∷ text) h =
+    ap (λ t. cond (not t) (1 + position_or_len (λ b. b == 0) text) 0) (ne_eqb b 0 (omega (arith, h.0)))
+    ∙ omega (arith, first_nul-none text h.1)
 
 pub position-no_nul : (text : List ℕ) → AllByRecursion (λ b. 0 < b) text → position (λ b. b == 0) text ≡ None
 position-no_nul text h =
@@ -122,13 +130,19 @@ no_nul-from_position text h =
 
 -- ---- the length
 
-pub too_long-at : (raws : List (List ℕ)) (parts : List Part) → walked [] raws ≡ Some parts → too_long raws ≡ cond (nat_lt longest_path (length (path_of_parts parts))) (Some (length (path_of_parts parts))) None
-too_long-at raws parts h = ap (option_and_then (λ parts. cond (nat_lt longest_path (length (path_of_parts parts))) (Some (length (path_of_parts parts))) None)) h
+pub too_long-at : (raws : List (List ℕ)) (parts : List Part) → walked [] raws ≡ Some parts
+    → too_long raws
+    ≡ cond (nat_lt longest_path (length (path_of_parts parts))) (Some (length (path_of_parts parts))) None
+too_long-at raws parts h =
+    ap (option_and_then (λ parts. cond (nat_lt longest_path (length (path_of_parts parts))) (Some (length (path_of_parts parts))) None)) h
 
-pub too_long-short : (raws : List (List ℕ)) (parts : List Part) → walked [] raws ≡ Some parts → length (path_of_parts parts) ≤ longest_path → too_long raws ≡ None
-too_long-short raws parts h short = too_long-at raws parts h ∙ cond-false _ _ _ (le-ltb longest_path (length (path_of_parts parts)) short)
+pub too_long-short : (raws : List (List ℕ)) (parts : List Part) → walked [] raws ≡ Some parts
+    → length (path_of_parts parts) ≤ longest_path → too_long raws ≡ None
+too_long-short raws parts h short =
+    too_long-at raws parts h ∙ cond-false _ _ _ (le-ltb longest_path (length (path_of_parts parts)) short)
 
-short_from_too_long : (raws : List (List ℕ)) (parts : List Part) → walked [] raws ≡ Some parts → too_long raws ≡ None → length (path_of_parts parts) ≤ longest_path
+short_from_too_long : (raws : List (List ℕ)) (parts : List Part) → walked [] raws ≡ Some parts → too_long raws ≡ None
+    → length (path_of_parts parts) ≤ longest_path
 short_from_too_long raws parts h none =
     ltb-false longest_path (length (path_of_parts parts)) (cond_off _ (length (path_of_parts parts)) (sym (too_long-at raws parts h) ∙ none))
 
@@ -140,7 +154,8 @@ pub record Begins (text : List ℕ) : Type 0 where
   pub rest : List ℕ
   pub cut : text ≡ word_of namespace ++ 47 ∷ rest
 
-pub start_of_text-word : (n : Namespace) (rest : List ℕ) → start_of_text (word_of n ++ 47 ∷ rest) ≡ At (length (word_of n))
+pub start_of_text-word : (n : Namespace) (rest : List ℕ)
+    → start_of_text (word_of n ++ 47 ∷ rest) ≡ At (length (word_of n))
 start_of_text-word Cascading rest = refl
 start_of_text-word Spec rest = refl
 start_of_text-word Proc rest = refl
@@ -162,7 +177,8 @@ pub start_behind-word : (word rest : List ℕ) → start_behind word rest ≡ st
 unfolding start_at
 start_behind-word word rest = refl
 
-word_at : (word text : List ℕ) (m n : Namespace) → text ++ 58 ∷ [] ≡ word_of m → is_text word text ≡ true → m ≡ n → word ++ 58 ∷ [] ≡ word_of n
+word_at : (word text : List ℕ) (m n : Namespace) → text ++ 58 ∷ [] ≡ word_of m → is_text word text ≡ true → m ≡ n
+    → word ++ 58 ∷ [] ≡ word_of n
 word_at word text m n q e same = ap (λ w. w ++ 58 ∷ []) (same_text word text e) ∙ q ∙ ap word_of same
 
 pub some_namespace : (m n : Namespace) → ◌≡◌ {A = Option Namespace} (Some m) (Some n) → m ≡ n
@@ -178,7 +194,8 @@ word_is word n h =
     (λ h. branch_taken (is_text word (codes "system")) _ _ _ h (λ e h. word_at word (codes "system") System n refl e (some_namespace System n h))
     (λ h. branch_taken (is_text word (codes "default")) _ _ _ h (λ e h. word_at word (codes "default") Default n refl e (some_namespace Default n h)) (λ h. absurd (cc)))))))
 
-any_before_end : (text : List ℕ) → list_any (λ b. b == 58) text ≡ true → position_or_len (λ b. b == 58) text < length text
+any_before_end : (text : List ℕ) → list_any (λ b. b == 58) text ≡ true
+    → position_or_len (λ b. b == 58) text < length text
 any_before_end [] h = absurd cc
 any_before_end (b ∷ text) h =
     cond_both (not (b == 58)) (1 + position_or_len (λ b. b == 58) text) 0 (λ n. n < length (b ∷ text))
@@ -189,37 +206,51 @@ any_before_end (b ∷ text) h =
     behind true rest n h = absurd cc
     behind false rest n h = h
 
-none_before_end : (text : List ℕ) → position_or_len (λ b. b == 58) text ≡ length text → list_any (λ b. b == 58) text ≡ false
+none_before_end : (text : List ℕ) → position_or_len (λ b. b == 58) text ≡ length text
+    → list_any (λ b. b == 58) text ≡ false
 none_before_end text h =
     elim (cases_Bool (list_any (λ b. b == 58) text)) [ inl e ↦ let lt = any_before_end text e in absurd (omega arith) | inr e ↦ e ]
 
 any_from_end : (text : List ℕ) → position_or_len (λ b. b == 58) text < length text → list_any (λ b. b == 58) text ≡ true
 any_from_end [] h = absurd (omega arith)
-any_from_end (b ∷ text) h = found (b == 58) (position_or_len (λ b. b == 58) text) (list_any (λ b. b == 58) text) (length text) h (any_from_end text)
+any_from_end (b ∷ text) h =
+    found (b == 58) (position_or_len (λ b. b == 58) text) (list_any (λ b. b == 58) text) (length text) h (any_from_end text)
   where
-    found : (t : Bool) (n : ℕ) (rest : Bool) (m : ℕ) → cond (not t) (1 + n) 0 < suc m → (n < m → rest ≡ true) → (t || rest) ≡ true
+    found : (t : Bool) (n : ℕ) (rest : Bool) (m : ℕ) → cond (not t) (1 + n) 0 < suc m → (n < m → rest ≡ true)
+        → (t || rest) ≡ true
     found true n rest m h f = refl
     found false n rest m h f = f (omega arith)
 
 -- a text without a colon
-pub start_of_text-no_colon : (text : List ℕ) → begins_with_slash text ≡ false → position_or_len (λ b. b == 58) text ≡ length text → start_of_text text ≡ Refused NoNamespace
+pub start_of_text-no_colon : (text : List ℕ) → begins_with_slash text ≡ false
+    → position_or_len (λ b. b == 58) text ≡ length text → start_of_text text ≡ Refused NoNamespace
 start_of_text-no_colon text slash colon =
-    cond-false (begins_with_slash text) _ _ slash ∙ cond-false (list_any (λ b. b == 58) text) _ _ (none_before_end text colon)
+    cond-false (begins_with_slash text) _ _ slash
+    ∙ cond-false (list_any (λ b. b == 58) text) _ _ (none_before_end text colon)
 
 -- a text with a colon
-pub start_of_text-colon : (text : List ℕ) → begins_with_slash text ≡ false → position_or_len (λ b. b == 58) text < length text → start_of_text text ≡ start_at (before_first (λ b. b == 58) text) (after_first (λ b. b == 58) text) (namespace_of_word (before_first (λ b. b == 58) text))
+pub start_of_text-colon : (text : List ℕ) → begins_with_slash text ≡ false
+    → position_or_len (λ b. b == 58) text < length text
+    → start_of_text text
+    ≡ start_at (before_first (λ b. b == 58) text) (after_first (λ b. b == 58) text) (namespace_of_word (before_first (λ b. b == 58) text))
 start_of_text-colon text slash colon =
-    cond-false (begins_with_slash text) _ _ slash ∙ cond-true (list_any (λ b. b == 58) text) _ _ (any_from_end text colon) ∙ start_behind-word (before_first (λ b. b == 58) text) (after_first (λ b. b == 58) text)
+    cond-false (begins_with_slash text) _ _ slash
+    ∙ cond-true (list_any (λ b. b == 58) text) _ _ (any_from_end text colon)
+    ∙ start_behind-word (before_first (λ b. b == 58) text) (after_first (λ b. b == 58) text)
 
 -- a text begins with a namespace and a slash, or it is refused before its parts are read
 pub data Opening (text : List ℕ) : Type 0 where
   Begun : Begins text → Opening text
   Turned : (refusal : Refusal) → start_of_text text ≡ Refused refusal → Opening text
 
-pub word_cut : (word rest tail : List ℕ) (n : Namespace) → word ++ 58 ∷ [] ≡ word_of n → rest ≡ 47 ∷ tail → word ++ 58 ∷ rest ≡ word_of n ++ 47 ∷ tail
-word_cut word rest tail n h e = ap (λ r. word ++ 58 ∷ r) e ∙ sym (append_assoc word (58 ∷ []) (47 ∷ tail)) ∙ ap (λ w. w ++ 47 ∷ tail) h
+pub word_cut : (word rest tail : List ℕ) (n : Namespace) → word ++ 58 ∷ [] ≡ word_of n → rest ≡ 47 ∷ tail
+    → word ++ 58 ∷ rest ≡ word_of n ++ 47 ∷ tail
+word_cut word rest tail n h e =
+    ap (λ r. word ++ 58 ∷ r) e ∙ sym (append_assoc word (58 ∷ []) (47 ∷ tail)) ∙ ap (λ w. w ++ 47 ∷ tail) h
 
-opening_behind : (text word rest : List ℕ) (namespace : Option Namespace) → text ≡ word ++ 58 ∷ rest → namespace_of_word word ≡ namespace → start_of_text text ≡ start_at word rest (namespace_of_word word) → Opening text
+opening_behind : (text word rest : List ℕ) (namespace : Option Namespace) → text ≡ word ++ 58 ∷ rest
+    → namespace_of_word word ≡ namespace → start_of_text text ≡ start_at word rest (namespace_of_word word)
+    → Opening text
 unfolding start_at
 opening_behind text word rest None cut e start = Turned UnknownNamespace (start ∙ ap (start_at word rest) e)
 opening_behind text word rest (Some n) cut e start =
@@ -228,9 +259,11 @@ opening_behind text word rest (Some n) cut e start =
       | inr b ↦ Turned NoSlash (start ∙ ap (start_at word rest) e ∙ cond-false (begins_with_slash rest) _ _ b)
     ]
 
-pub colon_cut : (text : List ℕ) → position_or_len (λ b. b == 58) text < length text → text ≡ before_first (λ b. b == 58) text ++ 58 ∷ after_first (λ b. b == 58) text
+pub colon_cut : (text : List ℕ) → position_or_len (λ b. b == 58) text < length text
+    → text ≡ before_first (λ b. b == 58) text ++ 58 ∷ after_first (λ b. b == 58) text
 colon_cut text colon =
-    split_at_first (λ b. b == 58) text 0 colon ∙ ap (λ b. before_first (λ b. b == 58) text ++ b ∷ after_first (λ b. b == 58) text) (eqb-true _ 58 (passes_at_first (λ b. b == 58) text 0 colon))
+    split_at_first (λ b. b == 58) text 0 colon
+    ∙ ap (λ b. before_first (λ b. b == 58) text ++ b ∷ after_first (λ b. b == 58) text) (eqb-true _ 58 (passes_at_first (λ b. b == 58) text 0 colon))
 
 pub opening : (text : List ℕ) → Opening text
 opening text =
@@ -244,23 +277,31 @@ opening text =
 
 -- ---- the whole text
 
-pub refusal_of-refused : (text : List ℕ) (refusal : Refusal) → start_of_text text ≡ Refused refusal → refusal_of text ≡ Some refusal
-refusal_of-refused text refusal h = ap (λ start. elim start [ At place ↦ refusal_behind text place | Refused refusal ↦ Some refusal ]) h
+pub refusal_of-refused : (text : List ℕ) (refusal : Refusal) → start_of_text text ≡ Refused refusal
+    → refusal_of text ≡ Some refusal
+refusal_of-refused text refusal h =
+    ap (λ start. elim start [ At place ↦ refusal_behind text place | Refused refusal ↦ Some refusal ]) h
 
-pub refusal_of-at : (text : List ℕ) (place : ℕ) → start_of_text text ≡ At place → refusal_of text ≡ refusal_behind text place
-refusal_of-at text place h = ap (λ start. elim start [ At place ↦ refusal_behind text place | Refused refusal ↦ Some refusal ]) h
+pub refusal_of-at : (text : List ℕ) (place : ℕ) → start_of_text text ≡ At place
+    → refusal_of text ≡ refusal_behind text place
+refusal_of-at text place h =
+    ap (λ start. elim start [ At place ↦ refusal_behind text place | Refused refusal ↦ Some refusal ]) h
 
 -- the first of four answers
 unfoldable pub first_refusal : Option ℕ → Option ℕ → Option ℕ → Option ℕ → Option Refusal
-first_refusal escape array nul length = option_or (option_map BadEscape escape) (option_or (option_map BadArray array) (option_or (option_map Nul nul) (option_map TooLong length)))
+first_refusal escape array nul length =
+    option_or (option_map BadEscape escape) (option_or (option_map BadArray array) (option_or (option_map Nul nul) (option_map TooLong length)))
 
 -- what is wrong with a text behind its start
-pub refusal_of-behind : (n : Namespace) (rest text : List ℕ) → text ≡ word_of n ++ 47 ∷ rest → refusal_of text ≡ first_refusal (first_some bad_escape (placed (length (word_of n) + 1) (raw_parts rest))) (first_some bad_array (placed (length (word_of n) + 1) (raw_parts rest))) (position (λ b. b == 0) text) (too_long (raw_parts rest))
+pub refusal_of-behind : (n : Namespace) (rest text : List ℕ) → text ≡ word_of n ++ 47 ∷ rest
+    → refusal_of text
+    ≡ first_refusal (first_some bad_escape (placed (length (word_of n) + 1) (raw_parts rest))) (first_some bad_array (placed (length (word_of n) + 1) (raw_parts rest))) (position (λ b. b == 0) text) (too_long (raw_parts rest))
 unfolding first_refusal
 refusal_of-behind n rest text cut =
     let place = length (word_of n) in
     let left : drop (place + 1) text ≡ rest = ap (drop (place + 1)) cut ∙ drop-word n rest in
-    refusal_of-at text place (ap start_of_text cut ∙ start_of_text-word n rest) ∙ ap (λ r. first_refusal (first_some bad_escape (placed (place + 1) (raw_parts r))) (first_some bad_array (placed (place + 1) (raw_parts r))) (position (λ b. b == 0) text) (too_long (raw_parts r))) left
+    refusal_of-at text place (ap start_of_text cut ∙ start_of_text-word n rest)
+    ∙ ap (λ r. first_refusal (first_some bad_escape (placed (place + 1) (raw_parts r))) (first_some bad_array (placed (place + 1) (raw_parts r))) (position (λ b. b == 0) text) (too_long (raw_parts r))) left
 
 pub refusal_of-spelled : (text : List ℕ) (name : Name) → Spells text name → refusal_of text ≡ None
 unfolding first_refusal
@@ -268,7 +309,8 @@ refusal_of-spelled text name h =
     let fine = AreFine-from_walked (length (word_of name.namespace) + 1) (raw_parts h.rest) [] name.parts h.leads in
     let nul = position-no_nul text h.no_nul in
     let length = too_long-short (raw_parts h.rest) name.parts h.leads h.limit in
-    refusal_of-behind name.namespace h.rest text h.cut ∙ (λ i. first_refusal (fine.escapes i) (fine.arrays i) (nul i) (length i))
+    refusal_of-behind name.namespace h.rest text h.cut
+    ∙ (λ i. first_refusal (fine.escapes i) (fine.arrays i) (nul i) (length i))
 
 -- where there is no answer, each of the four is none
 pub record HasNone (escape array nul length : Option ℕ) : Type 0 where
@@ -277,13 +319,19 @@ pub record HasNone (escape array nul length : Option ℕ) : Type 0 where
   pub nul_none : nul ≡ None
   pub length_none : length ≡ None
 
-HasNone-from_first : (escape array nul length : Option ℕ) → first_refusal escape array nul length ≡ None → HasNone escape array nul length
+HasNone-from_first : (escape array nul length : Option ℕ) → first_refusal escape array nul length ≡ None
+    → HasNone escape array nul length
 unfolding first_refusal
 HasNone-from_first escape array nul length h =
     let one = from_or (option_map BadEscape escape) _ h in
     let two = from_or (option_map BadArray array) _ one.1 in
     let three = from_or (option_map Nul nul) (option_map TooLong length) two.1 in
-    record { escape_none = map_none BadEscape escape one.0; array_none = map_none BadArray array two.0; nul_none = map_none Nul nul three.0; length_none = map_none TooLong length three.1 }
+    record {
+      escape_none = map_none BadEscape escape one.0;
+      array_none = map_none BadArray array two.0;
+      nul_none = map_none Nul nul three.0;
+      length_none = map_none TooLong length three.1;
+    }
 
 spells_behind : (text : List ℕ) → IsUtf8 text → refusal_of text ≡ None → Begins text → (name : Name) × Spells text name
 spells_behind text utf8 none begins =

@@ -63,16 +63,20 @@ both_true : (a b : Bool) → (a && b) ≡ true → (a ≡ true) × (b ≡ true)
 both_true true b e = (refl, e)
 both_true false b e = absurd cc
 
-pub no_nul-from_test : (text : List ℕ) → AllByRecursion (λ b. is_ascii_text_byte b ≡ true) text → AllByRecursion (λ b. 0 < b) text
+pub no_nul-from_test : (text : List ℕ) → AllByRecursion (λ b. is_ascii_text_byte b ≡ true) text
+    → AllByRecursion (λ b. 0 < b) text
 no_nul-from_test [] h = tt
 no_nul-from_test (b ∷ text) h = (ltb-true 0 b (both_true _ _ h.0).0, no_nul-from_test text h.1)
 
-pub is_ascii-from_test : (text : List ℕ) → AllByRecursion (λ b. is_ascii_text_byte b ≡ true) text → AllByRecursion (λ b. b < 128) text
+pub is_ascii-from_test : (text : List ℕ) → AllByRecursion (λ b. is_ascii_text_byte b ≡ true) text
+    → AllByRecursion (λ b. b < 128) text
 is_ascii-from_test [] h = tt
 is_ascii-from_test (b ∷ text) h = (ltb-true b 128 (both_true _ _ h.0).1, is_ascii-from_test text h.1)
 
 -- an ASCII text spells a name, by computation
-pub Spells-from_tests : (text : List ℕ) (name : Name) (rest : List ℕ) → text ≡ word_of name.namespace ++ 47 ∷ rest → walked [] (raw_parts rest) ≡ Some name.parts → list_all is_ascii_text_byte text ≡ true → length (path name) ≤ longest_path → Spells text name
+pub Spells-from_tests : (text : List ℕ) (name : Name) (rest : List ℕ) → text ≡ word_of name.namespace ++ 47 ∷ rest
+    → walked [] (raw_parts rest) ≡ Some name.parts → list_all is_ascii_text_byte text ≡ true
+    → length (path name) ≤ longest_path → Spells text name
 Spells-from_tests text name rest cut leads bytes limit =
     let pass = recursion_from_All (λ b. is_ascii_text_byte b ≡ true) text (AllPass-from_list_all is_ascii_text_byte text bytes) in
     record {
@@ -85,7 +89,8 @@ Spells-from_tests text name rest cut leads bytes limit =
     }
 
 -- a text spells nothing where its raw parts lead nowhere
-pub spells_nothing : (namespace : Namespace) (rest : List ℕ) → walked [] (raw_parts rest) ≡ None → (name : Name) → Spells (word_of namespace ++ 47 ∷ rest) name → ⊥
+pub spells_nothing : (namespace : Namespace) (rest : List ℕ) → walked [] (raw_parts rest) ≡ None → (name : Name)
+    → Spells (word_of namespace ++ 47 ∷ rest) name → ⊥
 spells_nothing namespace rest none name spells =
     let cut = same_cut namespace name.namespace rest spells.rest spells.cut in
     let leads : ◌≡◌ {A = Option (List Part)} None (Some name.parts) = sym none ∙ ap (λ r. walked [] (raw_parts r)) cut.1 ∙ spells.leads in

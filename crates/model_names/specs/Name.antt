@@ -46,4 +46,5 @@ namespace_at-rank Default = refl
 
 -- how a proof tells names apart: by the number of the namespace, and the parts
 abbrev pub coded_name : Coded Name
-coded_name = code_by (ℕ × List Part) (coded× coded_ℕ (coded_list (coded_list coded_ℕ))) (λ n. (rank n.namespace, n.parts)) (λ p. record { namespace = namespace_at p.0; parts = p.1 }) (λ n i. record { namespace = namespace_at-rank n.namespace i; parts = n.parts })
+coded_name =
+    code_by (ℕ × List Part) (coded× coded_ℕ (coded_list (coded_list coded_ℕ))) (λ n. (rank n.namespace, n.parts)) (λ p. record { namespace = namespace_at p.0; parts = p.1 }) (λ n i. record { namespace = namespace_at-rank n.namespace i; parts = n.parts })

@@ -70,7 +70,8 @@ bad_array part = option_and_then (λ move. if is_none move then Some part.0 else
 
 -- the length of the path that raw parts lead to, where it is over the limit
 abbrev pub too_long : List (List ℕ) → Option ℕ
-too_long raws = option_and_then (λ parts. let bytes = length (path_of_parts parts) in if nat_lt longest_path bytes then Some bytes else None) (walked [] raws)
+too_long raws =
+    option_and_then (λ parts. let bytes = length (path_of_parts parts) in if nat_lt longest_path bytes then Some bytes else None) (walked [] raws)
 
 -- what is wrong with a text whose first slash stands at a place: the first of escapes, array parts, NUL and length
 abbrev pub refusal_behind : List ℕ → ℕ → Option Refusal

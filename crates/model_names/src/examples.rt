@@ -28,19 +28,26 @@ pub fn refused_texts_spell_no_name()
 
 /// A name sorts behind those above it, and before its neighbours.
 pub fn names_are_ordered_by_parts()
-    ensures namespaces { name_cmp (record { namespace = Spec; parts = codes "z" ∷ [] }) (record { namespace = User; parts = codes "a" ∷ [] }) ≡ Less }
-    ensures cascading { name_cmp (record { namespace = Cascading; parts = codes "z" ∷ [] }) (record { namespace = Spec; parts = [] }) ≡ Less }
-    ensures proc { name_cmp (record { namespace = Proc; parts = codes "z" ∷ [] }) (record { namespace = Dir; parts = [] }) ≡ Less }
-    ensures default { name_cmp (record { namespace = System; parts = codes "z" ∷ [] }) (record { namespace = Default; parts = [] }) ≡ Less }
-    ensures below { name_cmp (record { namespace = User; parts = codes "a" ∷ [] }) (record { namespace = User; parts = codes "a" ∷ codes "b" ∷ [] }) ≡ Less }
-    ensures parts { name_cmp (record { namespace = User; parts = codes "a" ∷ codes "b" ∷ [] }) (record { namespace = User; parts = codes "a-b" ∷ [] }) ≡ Less }
+    ensures namespaces { name_cmp (record { namespace = Spec; parts = codes "z" ∷ [] }) (record { namespace = User; parts = codes "a" ∷ [] })
+        ≡ Less }
+    ensures cascading { name_cmp (record { namespace = Cascading; parts = codes "z" ∷ [] }) (record { namespace = Spec; parts = [] })
+        ≡ Less }
+    ensures proc { name_cmp (record { namespace = Proc; parts = codes "z" ∷ [] }) (record { namespace = Dir; parts = [] })
+        ≡ Less }
+    ensures default { name_cmp (record { namespace = System; parts = codes "z" ∷ [] }) (record { namespace = Default; parts = [] })
+        ≡ Less }
+    ensures below { name_cmp (record { namespace = User; parts = codes "a" ∷ [] }) (record { namespace = User; parts = codes "a" ∷ codes "b" ∷ [] })
+        ≡ Less }
+    ensures parts { name_cmp (record { namespace = User; parts = codes "a" ∷ codes "b" ∷ [] }) (record { namespace = User; parts = codes "a-b" ∷ [] })
+        ≡ Less }
 {}
 
 /// A part is spelled with its escapes, and a root as one slash.
 pub fn spellings_are_canonical()
     ensures root { spelling (record { namespace = User; parts = [] }) ≡ codes "user:/" }
     ensures escaped { spelling (record { namespace = User; parts = codes "a/b" ∷ [] ∷ [] }) ≡ codes "user:/a\\/b/%" }
-    ensures reserved { spelling (record { namespace = User; parts = codes ".." ∷ codes "%" ∷ [] }) ≡ codes "user:/\\../\\%" }
+    ensures reserved { spelling (record { namespace = User; parts = codes ".." ∷ codes "%" ∷ [] })
+        ≡ codes "user:/\\../\\%" }
 {}
 
 /// The name of a text as a function of it.

@@ -64,13 +64,15 @@ pub fn one_spelling_one_name()
 
 /// A text with a slash in front spells a cascading name only, and such a name is spelled so.
 pub fn a_slash_in_front_means_cascading()
-    ensures texts { (text : List ℕ) (name : Name) → begins_with_slash text ≡ true → Spells text name → name.namespace ≡ Cascading }
+    ensures texts { (text : List ℕ) (name : Name) → begins_with_slash text ≡ true → Spells text name
+        → name.namespace ≡ Cascading }
     ensures spellings { (name : Name) → name.namespace ≡ Cascading → begins_with_slash (spelling name) ≡ true }
 {}
 
 /// A part stands for an item of an array exactly where it is the part of an index.
 pub fn an_array_part_is_that_of_an_index()
-    ensures index { (part : List ℕ) → IsArrayPart part → (index : ℕ) × (index ≤ last_index) × (part ≡ array_part index) }
+    ensures index { (part : List ℕ) → IsArrayPart part
+        → (index : ℕ) × (index ≤ last_index) × (part ≡ array_part index) }
     ensures part { (index : ℕ) → index ≤ last_index → IsArrayPart (array_part index) }
 {}
 

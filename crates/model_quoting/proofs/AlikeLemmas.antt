@@ -34,9 +34,11 @@ first_quoted a b xs ys same = by (quoted_as a) (quoted_as b)
         let h = at (92 ∷ letter ∷ []) (92 ∷ other ∷ []) e f in
         let letters : letter ≡ other = cc in
         (p.is ∙ ap byte_of letters ∙ sym q.is, cc)
-    by (Escaped letter p e) (Hexadecimal _ f) = let h = at (92 ∷ letter ∷ []) (in_hexadecimal b) e f in absurd (p.no_hexadecimal cc)
+    by (Escaped letter p e) (Hexadecimal _ f) =
+        let h = at (92 ∷ letter ∷ []) (in_hexadecimal b) e f in absurd (p.no_hexadecimal cc)
     by (Escaped letter _ e) (Bare q f) = let h = at (92 ∷ letter ∷ []) (b ∷ []) e f in absurd (q.no_backslash cc)
-    by (Hexadecimal _ e) (Escaped other q f) = let h = at (in_hexadecimal a) (92 ∷ other ∷ []) e f in absurd (q.no_hexadecimal cc)
+    by (Hexadecimal _ e) (Escaped other q f) =
+        let h = at (in_hexadecimal a) (92 ∷ other ∷ []) e f in absurd (q.no_hexadecimal cc)
     by (Hexadecimal _ e) (Hexadecimal _ f) =
         let h = at (in_hexadecimal a) (in_hexadecimal b) e f in
         (same_digits a b (hex_digit-once (a / 16) (b / 16) cc) (hex_digit-once (a % 16) (b % 16) cc), cc)

@@ -20,17 +20,22 @@ Ends [] = Unit {0}
 Ends (b ∷ rest) = b ≤ 32
 
 plain_above : (b : ℕ) (rest : List ℕ) → list_all is_plain_byte (b ∷ rest) ≡ true → 32 < b
-plain_above b rest plain = let first = (and_parts (is_plain_byte b) (list_all is_plain_byte rest) plain).0 in grind (arith, nat_tests)
+plain_above b rest plain =
+    let first = (and_parts (is_plain_byte b) (list_all is_plain_byte rest) plain).0 in grind (arith, nat_tests)
 
 plain_no_quote : (b : ℕ) (rest : List ℕ) → list_all is_plain_byte (b ∷ rest) ≡ true → b ≢ 34
-plain_no_quote b rest plain quote = let first = (and_parts (is_plain_byte b) (list_all is_plain_byte rest) plain).0 in grind (arith, nat_tests)
+plain_no_quote b rest plain quote =
+    let first = (and_parts (is_plain_byte b) (list_all is_plain_byte rest) plain).0 in grind (arith, nat_tests)
 
 -- no plain word goes on where another ends
-goes_on : (b : ℕ) (word rest behind : List ℕ) → list_all is_plain_byte (b ∷ word) ≡ true → Ends behind → behind ≢ b ∷ (word ++ rest)
+goes_on : (b : ℕ) (word rest behind : List ℕ) → list_all is_plain_byte (b ∷ word) ≡ true → Ends behind
+    → behind ≢ b ∷ (word ++ rest)
 goes_on b word rest [] plain ends e = cc
-goes_on b word rest (c ∷ behind) plain ends e = let same : c ≡ b = cc in let above = plain_above b word plain in omega arith
+goes_on b word rest (c ∷ behind) plain ends e =
+    let same : c ≡ b = cc in let above = plain_above b word plain in omega arith
 
-plain-cut : (a b xs ys : List ℕ) → list_all is_plain_byte a ≡ true → list_all is_plain_byte b ≡ true → Ends xs → Ends ys → a ++ xs ≡ b ++ ys → (a ≡ b) × (xs ≡ ys)
+plain-cut : (a b xs ys : List ℕ) → list_all is_plain_byte a ≡ true → list_all is_plain_byte b ≡ true → Ends xs → Ends ys
+    → a ++ xs ≡ b ++ ys → (a ≡ b) × (xs ≡ ys)
 plain-cut [] [] xs ys p q f g e = (refl, e)
 plain-cut [] (c ∷ b) xs ys p q f g e = absurd (goes_on c b ys xs q f e)
 plain-cut (c ∷ a) [] xs ys p q f g e = absurd (goes_on c a xs ys p g (sym e))
@@ -48,13 +53,17 @@ goes_on_inside b xs ys same = by (quoted_as b)
   where
     by : QuotedAs b → ⊥
     by (Escaped letter _ e) = no_quote 92 xs (letter ∷ ys) (λ f. omega arith) (same ∙ ap (λ t. t ++ ys) e)
-    by (Hexadecimal _ e) = no_quote 92 xs (120 ∷ hex_digit (b / 16) ∷ hex_digit (b % 16) ∷ ys) (λ f. omega arith) (same ∙ ap (λ t. t ++ ys) e)
+    by (Hexadecimal _ e) =
+        no_quote 92 xs (120 ∷ hex_digit (b / 16) ∷ hex_digit (b % 16) ∷ ys) (λ f. omega arith) (same ∙ ap (λ t. t ++ ys) e)
     by (Bare p e) = no_quote b xs ys p.no_quote (same ∙ ap (λ t. t ++ ys) e)
 
-inside-cut : (a b xs ys : List ℕ) → flat_map quoted_byte a ++ 34 ∷ xs ≡ flat_map quoted_byte b ++ 34 ∷ ys → (a ≡ b) × (xs ≡ ys)
+inside-cut : (a b xs ys : List ℕ) → flat_map quoted_byte a ++ 34 ∷ xs ≡ flat_map quoted_byte b ++ 34 ∷ ys
+    → (a ≡ b) × (xs ≡ ys)
 inside-cut [] [] xs ys e = (refl, cc)
-inside-cut [] (c ∷ b) xs ys e = absurd (goes_on_inside c xs (flat_map quoted_byte b ++ 34 ∷ ys) (e ∙ append_assoc (quoted_byte c) (flat_map quoted_byte b) (34 ∷ ys)))
-inside-cut (c ∷ a) [] xs ys e = absurd (goes_on_inside c ys (flat_map quoted_byte a ++ 34 ∷ xs) (sym e ∙ append_assoc (quoted_byte c) (flat_map quoted_byte a) (34 ∷ xs)))
+inside-cut [] (c ∷ b) xs ys e =
+    absurd (goes_on_inside c xs (flat_map quoted_byte b ++ 34 ∷ ys) (e ∙ append_assoc (quoted_byte c) (flat_map quoted_byte b) (34 ∷ ys)))
+inside-cut (c ∷ a) [] xs ys e =
+    absurd (goes_on_inside c ys (flat_map quoted_byte a ++ 34 ∷ xs) (sym e ∙ append_assoc (quoted_byte c) (flat_map quoted_byte a) (34 ∷ xs)))
 inside-cut (c ∷ a) (d ∷ b) xs ys e =
     let there = sym (append_assoc (quoted_byte c) (flat_map quoted_byte a) (34 ∷ xs)) ∙ e ∙ append_assoc (quoted_byte d) (flat_map quoted_byte b) (34 ∷ ys) in
     let first = first_quoted c d (flat_map quoted_byte a ++ 34 ∷ xs) (flat_map quoted_byte b ++ 34 ∷ ys) there in

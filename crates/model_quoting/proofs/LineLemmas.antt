@@ -27,15 +27,19 @@ quoted_byte-line b = by (quoted_as b)
   where
     by : QuotedAs b → list_all is_line_byte (quoted_byte b) ≡ true
     by (Escaped letter h e) =
-        ap (list_all is_line_byte) e ∙ both 92 letter refl (line_byte letter h.printed.0 (λ f. let small = h.printed.1 in omega arith))
+        ap (list_all is_line_byte) e
+        ∙ both 92 letter refl (line_byte letter h.printed.0 (λ f. let small = h.printed.1 in omega arith))
     by (Hexadecimal small e) =
-        ap (list_all is_line_byte) e ∙ both (hex_digit (b / 16)) (hex_digit (b % 16)) (hex_digit-line (b / 16) (omega arith)) (hex_digit-line (b % 16) (omega arith))
-    by (Bare h e) = ap (list_all is_line_byte) e ∙ and_from (is_line_byte b) true (line_byte b h.no_control h.no_delete) refl
+        ap (list_all is_line_byte) e
+        ∙ both (hex_digit (b / 16)) (hex_digit (b % 16)) (hex_digit-line (b / 16) (omega arith)) (hex_digit-line (b % 16) (omega arith))
+    by (Bare h e) =
+        ap (list_all is_line_byte) e ∙ and_from (is_line_byte b) true (line_byte b h.no_control h.no_delete) refl
 
 all_quoted-line : (text : List ℕ) → list_all is_line_byte (flat_map quoted_byte text) ≡ true
 all_quoted-line [] = refl
 all_quoted-line (b ∷ text) =
-    list_all-append is_line_byte (quoted_byte b) (flat_map quoted_byte text) ∙ and_from _ _ (quoted_byte-line b) (all_quoted-line text)
+    list_all-append is_line_byte (quoted_byte b) (flat_map quoted_byte text)
+    ∙ and_from _ _ (quoted_byte-line b) (all_quoted-line text)
 
 pub quoted-line : (text : List ℕ) → list_all is_line_byte (quoted text) ≡ true
 quoted-line text =

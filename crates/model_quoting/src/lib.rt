@@ -30,7 +30,8 @@ pub fn one_shown_text_one_text()
 /// stands behind it can be told.
 pub fn texts_on_a_line_are_told_from_what_follows()
     ensures in_quotes { (a b rest other : List ℕ) → quoted a ++ rest ≡ quoted b ++ other → (a ≡ b) × (rest ≡ other) }
-    ensures shown { (a b rest other : List ℕ) (blank end : ℕ) → blank ≤ 32 → end ≤ 32 → shown_text a ++ blank ∷ rest ≡ shown_text b ++ end ∷ other → (a ≡ b) × (blank ∷ rest ≡ end ∷ other) }
+    ensures shown { (a b rest other : List ℕ) (blank end : ℕ) → blank ≤ 32 → end ≤ 32
+        → shown_text a ++ blank ∷ rest ≡ shown_text b ++ end ∷ other → (a ≡ b) × (blank ∷ rest ≡ end ∷ other) }
 {}
 
 /// Well-formed names that are shown alike are one.

@@ -17,14 +17,16 @@ minus_first digits h = absurd (omega (arith, h.1.0))
 abbrev pub IsBare : Bool → List ℕ → Type 0
 IsBare minus digits = minus ≡ false → (rest : List ℕ) → digits ≢ 45 ∷ rest
 
-same_digits : (m n : Bool) (d e : List ℕ) → with_sign m d ≡ with_sign n e → IsNumeral 10 d → IsBare n e → (m ≡ n) × (d ≡ e)
+same_digits : (m n : Bool) (d e : List ℕ) → with_sign m d ≡ with_sign n e → IsNumeral 10 d → IsBare n e
+    → (m ≡ n) × (d ≡ e)
 same_digits true true d e h x bare = (refl, ap (drop 1) h)
 same_digits false false d e h x bare = (refl, h)
 same_digits true false d e h x bare = absurd (bare refl d (sym h))
 same_digits false true d e h x bare = absurd (minus_first e (subst (λ t. IsNumeral 10 t) h x))
 
 -- a number's text tells its digits
-pub IsNumber-digits : (minus : Bool) (digits : List ℕ) (number : ℤ) → IsBare minus digits → IsNumber (with_sign minus digits) number → AreDigitsOf minus digits number
+pub IsNumber-digits : (minus : Bool) (digits : List ℕ) (number : ℤ) → IsBare minus digits
+    → IsNumber (with_sign minus digits) number → AreDigitsOf minus digits number
 IsNumber-digits minus digits number bare p =
     let same = same_digits p.minus minus p.digits digits (sym p.spelled) p.number.numeral bare in
     let here = subst (λ m. AreDigitsOf m p.digits number) same.0 p.number in

@@ -37,7 +37,8 @@ pub record IsFront (text : List ℕ) : Type 0 where
 number_front : (minus : Bool) (digits : List ℕ) → IsNumeral 10 digits → IsFront (with_sign minus digits)
 number_front true digits h = record { first = 45; rest = digits; whole = refl; none = HasNoMinus-digits digits h.1 }
 number_front false [] h = absurd (omega (arith, h.0))
-number_front false (c ∷ digits) h = record { first = c; rest = digits; whole = refl; none = HasNoMinus-digits digits h.1.1 }
+number_front false (c ∷ digits) h =
+    record { first = c; rest = digits; whole = refl; none = HasNoMinus-digits digits h.1.1 }
 
 pub IsNumber-front : (text : List ℕ) (value : ℤ) → IsNumber text value → IsFront text
 IsNumber-front text value p = subst IsFront (sym p.spelled) (number_front p.minus p.digits p.number.numeral)
@@ -58,7 +59,8 @@ one_front_alone text first last p q e =
     no_minus_inside q.rest last (subst HasNoMinus (ap (drop 1) whole) p.none)
 
 -- a front and what stands behind the next minus are told by the whole
-pub two_parts_once : (first last first' last' : List ℕ) → IsFront first → IsFront first' → first ++ (45 ∷ last) ≡ first' ++ (45 ∷ last') → (first ≡ first') × (last ≡ last')
+pub two_parts_once : (first last first' last' : List ℕ) → IsFront first → IsFront first'
+    → first ++ (45 ∷ last) ≡ first' ++ (45 ∷ last') → (first ≡ first') × (last ≡ last')
 two_parts_once first last first' last' p q e =
     let whole : p.first ∷ (p.rest ++ (45 ∷ last)) ≡ q.first ∷ (q.rest ++ (45 ∷ last')) = sym (ap (λ t. t ++ (45 ∷ last)) p.whole) ∙ e ∙ ap (λ t. t ++ (45 ∷ last')) q.whole in
     let more = fronts_once p.rest q.rest last last' p.none q.none (ap (drop 1) whole) in
@@ -69,9 +71,12 @@ abbrev interval : ℤ → ℤ → Interval
 interval low high = record { low = low; high = high }
 
 pub IsItem-once : (item : List ℕ) (a b : Interval) → IsItem item a → IsItem item b → a ≡ b
-IsItem-once item a b (Single l h) (Single l' h') = ap₂ interval (IsNumber-once item a.low b.low l l') (IsNumber-once item a.high b.high h h')
-IsItem-once item a b (Single l h) (Between first last e f g o) = absurd (one_front_alone item first last (IsNumber-front item a.low l) (IsNumber-front first b.low f) e)
-IsItem-once item a b (Between first last e f g o) (Single l h) = absurd (one_front_alone item first last (IsNumber-front item b.low l) (IsNumber-front first a.low f) e)
+IsItem-once item a b (Single l h) (Single l' h') =
+    ap₂ interval (IsNumber-once item a.low b.low l l') (IsNumber-once item a.high b.high h h')
+IsItem-once item a b (Single l h) (Between first last e f g o) =
+    absurd (one_front_alone item first last (IsNumber-front item a.low l) (IsNumber-front first b.low f) e)
+IsItem-once item a b (Between first last e f g o) (Single l h) =
+    absurd (one_front_alone item first last (IsNumber-front item b.low l) (IsNumber-front first a.low f) e)
 IsItem-once item a b (Between first last e f g o) (Between first' last' e' f' g' o') =
     let same = two_parts_once first last first' last' (IsNumber-front first a.low f) (IsNumber-front first' b.low f') (sym e ∙ e') in
     ap₂ interval (IsNumber-once first a.low b.low f (subst (λ t. IsNumber t b.low) (sym same.0) f')) (IsNumber-once last a.high b.high g (subst (λ t. IsNumber t b.high) (sym same.1) g'))
@@ -82,7 +87,8 @@ zips_once [] [] (y ∷ b) p q = absurd q
 zips_once [] (x ∷ a) b p q = absurd p
 zips_once (item ∷ items) [] b p q = absurd p
 zips_once (item ∷ items) (x ∷ a) [] p q = absurd q
-zips_once (item ∷ items) (x ∷ a) (y ∷ b) p q = ap₂ (λ (i : Interval) (is : List Interval). i ∷ is) (IsItem-once item x y p.0 q.0) (zips_once items a b p.1 q.1)
+zips_once (item ∷ items) (x ∷ a) (y ∷ b) p q =
+    ap₂ (λ (i : Interval) (is : List Interval). i ∷ is) (IsItem-once item x y p.0 q.0) (zips_once items a b p.1 q.1)
 
 pub IsRange-once : (text : List ℕ) (a b : List Interval) → IsRange text a → IsRange text b → a ≡ b
 IsRange-once text a b = zips_once (slice_split is_comma text) a b

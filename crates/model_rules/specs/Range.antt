@@ -7,7 +7,8 @@ use Rattle.model_rules.specs.declared.intervals.Interval.{Interval}
 -- an item of a range: a number, or two with a `-` between them, of which the first is at most the second
 pub data IsItem (item : List ℕ) (interval : Interval) : Type 0 where
   Single : IsNumber item interval.low → IsNumber item interval.high → IsItem item interval
-  Between : (first last : List ℕ) → item ≡ first ++ (45 ∷ last) → IsNumber first interval.low → IsNumber last interval.high → interval.low ≤ℤ interval.high → IsItem item interval
+  Between : (first last : List ℕ) → item ≡ first ++ (45 ∷ last) → IsNumber first interval.low
+      → IsNumber last interval.high → interval.low ≤ℤ interval.high → IsItem item interval
 
 -- a comma
 abbrev pub is_comma : ℕ → Bool

@@ -17,13 +17,19 @@ breach rule given = record { rule = rule; given = given }
 
 -- 1 where `type` is no word of the table, 2 where the value isn't of that type
 pub data BreaksType (value : List ℕ) (meta : Meta) (broken : Broken) : Type 0 where
-  UnknownType : (word : List ℕ) → map.get meta (codes "type") ≡ Some word → kind_of word ≡ None → broken ≡ breach 1 word → BreaksType value meta broken
-  WrongType : (word : List ℕ) (kind : Kind) → map.get meta (codes "type") ≡ Some word → kind_of word ≡ Some kind → (IsOfKind kind value → ⊥) → broken ≡ breach 2 value → BreaksType value meta broken
+  UnknownType : (word : List ℕ) → map.get meta (codes "type") ≡ Some word → kind_of word ≡ None → broken ≡ breach 1 word
+      → BreaksType value meta broken
+  WrongType : (word : List ℕ) (kind : Kind) → map.get meta (codes "type") ≡ Some word → kind_of word ≡ Some kind
+      → (IsOfKind kind value → ⊥) → broken ≡ breach 2 value → BreaksType value meta broken
 
 -- 3 where `check/range` is no range, 4 where the value is no number or lies in none of its intervals
 pub data BreaksRange (value : List ℕ) (meta : Meta) (broken : Broken) : Type 0 where
-  BadRange : (text : List ℕ) → map.get meta (codes "check/range") ≡ Some text → ((intervals : List Interval) → IsRange text intervals → ⊥) → broken ≡ breach 3 text → BreaksRange value meta broken
-  OutOfRange : (text : List ℕ) (intervals : List Interval) → map.get meta (codes "check/range") ≡ Some text → IsRange text intervals → ((number : ℤ) → IsNumber value number → LiesIn intervals number → ⊥) → broken ≡ breach 4 value → BreaksRange value meta broken
+  BadRange : (text : List ℕ) → map.get meta (codes "check/range") ≡ Some text
+      → ((intervals : List Interval) → IsRange text intervals → ⊥) → broken ≡ breach 3 text
+      → BreaksRange value meta broken
+  OutOfRange : (text : List ℕ) (intervals : List Interval) → map.get meta (codes "check/range") ≡ Some text
+      → IsRange text intervals → ((number : ℤ) → IsNumber value number → LiesIn intervals number → ⊥)
+      → broken ≡ breach 4 value → BreaksRange value meta broken
 
 -- 5 where the array `check/enum` has an item and none is the value
 pub record BreaksEnum (value : List ℕ) (meta : Meta) (broken : Broken) : Type 0 where
@@ -38,13 +44,19 @@ longest_pattern = 1024
 -- 6 where `check/validation` is too long for a pattern or is refused as one, 7 where that pattern matches nowhere in
 -- the value. Which patterns are refused, and which match nowhere in a value, is the matcher's matter
 pub data BreaksPattern (Refuses : List ℕ → Type 0) (Misses : List ℕ → List ℕ → Type 0) (value : List ℕ) (meta : Meta) (broken : Broken) : Type 0 where
-  LongPattern : (pattern : List ℕ) → map.get meta (codes "check/validation") ≡ Some pattern → longest_pattern < length pattern → broken ≡ breach 6 pattern → BreaksPattern Refuses Misses value meta broken
-  BadPattern : (pattern : List ℕ) → map.get meta (codes "check/validation") ≡ Some pattern → length pattern ≤ longest_pattern → Refuses pattern → broken ≡ breach 6 pattern → BreaksPattern Refuses Misses value meta broken
-  Mismatch : (pattern : List ℕ) → map.get meta (codes "check/validation") ≡ Some pattern → length pattern ≤ longest_pattern → Misses pattern value → broken ≡ breach 7 value → BreaksPattern Refuses Misses value meta broken
+  LongPattern : (pattern : List ℕ) → map.get meta (codes "check/validation") ≡ Some pattern
+      → longest_pattern < length pattern → broken ≡ breach 6 pattern → BreaksPattern Refuses Misses value meta broken
+  BadPattern : (pattern : List ℕ) → map.get meta (codes "check/validation") ≡ Some pattern
+      → length pattern ≤ longest_pattern → Refuses pattern → broken ≡ breach 6 pattern
+      → BreaksPattern Refuses Misses value meta broken
+  Mismatch : (pattern : List ℕ) → map.get meta (codes "check/validation") ≡ Some pattern
+      → length pattern ≤ longest_pattern → Misses pattern value → broken ≡ breach 7 value
+      → BreaksPattern Refuses Misses value meta broken
 
 -- a value with this metadata keeps the rules on patterns: there is none, or it is short enough and matches
 abbrev pub KeepsPattern : (List ℕ → List ℕ → Type 0) → List ℕ → Meta → Type 0
-KeepsPattern Matches value meta = (pattern : List ℕ) → map.get meta (codes "check/validation") ≡ Some pattern → (length pattern ≤ longest_pattern) × Matches pattern value
+KeepsPattern Matches value meta =
+    (pattern : List ℕ) → map.get meta (codes "check/validation") ≡ Some pattern → (length pattern ≤ longest_pattern) × Matches pattern value
 
 -- the answer of a check: a breach, or none where there is none
 abbrev pub Tells : (Broken → Type 0) → Option Broken → Type 0

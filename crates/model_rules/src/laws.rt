@@ -24,15 +24,18 @@ pub fn one_range_one_list()
 
 /// A value breaks the rules on types in at most one way.
 pub fn a_value_breaks_type_once()
-    ensures { (value : List ℕ) (meta : Meta) (a b : Broken) → BreaksType value meta a → BreaksType value meta b → a ≡ b }
+    ensures { (value : List ℕ) (meta : Meta) (a b : Broken) → BreaksType value meta a → BreaksType value meta b
+        → a ≡ b }
 {}
 
 /// It breaks the rules on ranges in at most one way.
 pub fn a_value_breaks_range_once()
-    ensures { (value : List ℕ) (meta : Meta) (a b : Broken) → BreaksRange value meta a → BreaksRange value meta b → a ≡ b }
+    ensures { (value : List ℕ) (meta : Meta) (a b : Broken) → BreaksRange value meta a → BreaksRange value meta b
+        → a ≡ b }
 {}
 
 /// It breaks the rule on enumerations in at most one way.
 pub fn a_value_breaks_enum_once()
-    ensures { (value : List ℕ) (meta : Meta) (a b : Broken) → BreaksEnum value meta a → BreaksEnum value meta b → a ≡ b }
+    ensures { (value : List ℕ) (meta : Meta) (a b : Broken) → BreaksEnum value meta a → BreaksEnum value meta b
+        → a ≡ b }
 {}

@@ -30,7 +30,8 @@ use Rattle.model_specified.specs.Specified.{default_at, default_name, default_of
 
 -- what a key of `spec:` makes of a name
 abbrev made_by : Name → Name × Entry → Option Entry
-made_by q spec = cond (eq_by_cmp name_cmp q (default_name spec.0.parts)) (cond (has_glob spec.0.parts) None (default_text spec.1)) None
+made_by q spec =
+    cond (eq_by_cmp name_cmp q (default_name spec.0.parts)) (cond (has_glob spec.0.parts) None (default_text spec.1)) None
 
 skipped : {A : Type 0} (b : Bool) (o : Option A) → o ≡ option_or (cond b None None) o
 skipped true o = refl
@@ -41,10 +42,12 @@ chosen true x o = refl
 chosen false x o = refl
 
 -- a name once the default of one key is made
-get-one : (q : Name) (spec : Name × Entry) (keys : KeyMap) → map.get (with_keys (default_of spec) keys) q ≡ option_or (made_by q spec) (map.get keys q)
+get-one : (q : Name) (spec : Name × Entry) (keys : KeyMap)
+    → map.get (with_keys (default_of spec) keys) q ≡ option_or (made_by q spec) (map.get keys q)
 get-one q spec keys = by (has_glob spec.0.parts) (map.get spec.1.meta (codes "default"))
   where
-    by : (glob : Bool) (o : Option (List ℕ)) → map.get (with_keys (if glob then [] else option_to_list (option_map (λ text. (default_name spec.0.parts, plain_entry text)) o)) keys) q
+    by : (glob : Bool) (o : Option (List ℕ))
+        → map.get (with_keys (if glob then [] else option_to_list (option_map (λ text. (default_name spec.0.parts, plain_entry text)) o)) keys) q
         ≡ option_or (cond (eq_by_cmp name_cmp q (default_name spec.0.parts)) (cond glob None (option_map plain_entry o)) None) (map.get keys q)
     by true o = skipped (eq_by_cmp name_cmp q (default_name spec.0.parts)) (map.get keys q)
     by false None = skipped (eq_by_cmp name_cmp q (default_name spec.0.parts)) (map.get keys q)
@@ -77,22 +80,26 @@ told_by_parts q = by (is_made q) refl
           absurd cc
     ]
 
-none_made : (b : Bool) {A B : Type 0} (f : A → Option B) (o : Option A) → o ≡ None → (if b then option_and_then f o else None) ≡ None
+none_made : (b : Bool) {A B : Type 0} (f : A → Option B) (o : Option A) → o ≡ None
+    → (if b then option_and_then f o else None) ≡ None
 none_made true f o e = ap (option_and_then f) e
 none_made false f o e = refl
 
 -- the key of a name's path makes of it what its default says
-made_here : (made glob : Bool) (o : Option Entry) (rest : Option Entry) → option_or (cond made (cond glob None o) None) rest ≡ option_or (if made && not glob then o else None) rest
+made_here : (made glob : Bool) (o : Option Entry) (rest : Option Entry)
+    → option_or (cond made (cond glob None o) None) rest ≡ option_or (if made && not glob then o else None) rest
 made_here true true o rest = refl
 made_here true false o rest = refl
 made_here false glob o rest = refl
 
 -- a key of `spec:` before others that come behind it in key order
-one_more : (q : Name) (spec : Name × Entry) (specs : List (Name × Entry)) (rest : Option Entry) → spec.0.namespace ≡ Spec → T (below_all name_cmp spec.0 specs)
+one_more : (q : Name) (spec : Name × Entry) (specs : List (Name × Entry)) (rest : Option Entry)
+    → spec.0.namespace ≡ Spec → T (below_all name_cmp spec.0 specs)
     → option_or (made_in q specs) (option_or (made_by q spec) rest) ≡ option_or (made_in q (spec ∷ specs)) rest
 one_more q spec specs rest in_spec below = by (tied_or_not name_cmp-IsAntisymmetric (spec_name q.parts) spec.0)
   where
-    by : (eq_by_cmp name_cmp (spec_name q.parts) spec.0 ≡ false) ⊎ ((eq_by_cmp name_cmp (spec_name q.parts) spec.0 ≡ true) × (spec_name q.parts ≡ spec.0))
+    by : (eq_by_cmp name_cmp (spec_name q.parts) spec.0 ≡ false)
+        ⊎ ((eq_by_cmp name_cmp (spec_name q.parts) spec.0 ≡ true) × (spec_name q.parts ≡ spec.0))
         → option_or (made_in q specs) (option_or (made_by q spec) rest) ≡ option_or (made_in q (spec ∷ specs)) rest
     by (inl apart) =
         let other : eq_by_cmp name_cmp q (default_name spec.0.parts) ≡ false = elim (tied_or_not name_cmp-IsAntisymmetric q (default_name spec.0.parts)) as (λ _. eq_by_cmp name_cmp q (default_name spec.0.parts) ≡ false) [
@@ -113,11 +120,13 @@ one_more q spec specs rest in_spec below = by (tied_or_not name_cmp-IsAntisymmet
         ∙ made_here (is_made q) (has_glob q.parts) (default_text spec.1) rest
         ∙ ap (λ b. option_or (if is_made q && not (has_glob q.parts) then option_and_then default_text (cond b (Some spec.1) (find name_cmp (spec_name q.parts) specs)) else None) rest) (sym here.0)
 
-none_at_all : (b : Bool) {A B : Type 0} (f : A → Option B) (o : Option B) → o ≡ option_or (if b then option_and_then f None else None) o
+none_at_all : (b : Bool) {A B : Type 0} (f : A → Option B) (o : Option B)
+    → o ≡ option_or (if b then option_and_then f None else None) o
 none_at_all true f o = refl
 none_at_all false f o = refl
 
-get-made : (q : Name) (specs : List (Name × Entry)) (keys : KeyMap) → T (is_sorted name_cmp specs) → AllByRecursion (λ spec. spec.0.namespace ≡ Spec) specs
+get-made : (q : Name) (specs : List (Name × Entry)) (keys : KeyMap) → T (is_sorted name_cmp specs)
+    → AllByRecursion (λ spec. spec.0.namespace ≡ Spec) specs
     → map.get (with_keys (flat_map default_of specs) keys) q ≡ option_or (made_in q specs) (map.get keys q)
 get-made q [] keys sorted all = none_at_all (is_made q && not (has_glob q.parts)) default_text (map.get keys q)
 get-made q (spec ∷ specs) keys sorted all =
@@ -127,7 +136,8 @@ get-made q (spec ∷ specs) keys sorted all =
     ∙ one_more q spec specs (map.get keys q) all.0 (first _ _ sorted)
 
 -- the keys of `spec:` are in it
-kept_in_spec : (keys : List (Name × Entry)) → AllByRecursion (λ spec. spec.0.namespace ≡ Spec) (where_key name_cmp (is_at_or_below (spec_name [])) keys)
+kept_in_spec : (keys : List (Name × Entry))
+    → AllByRecursion (λ spec. spec.0.namespace ≡ Spec) (where_key name_cmp (is_at_or_below (spec_name [])) keys)
 kept_in_spec [] = tt
 kept_in_spec (key ∷ keys) =
     elim (is_at_or_below (spec_name []) key.0) as (λ b. is_at_or_below (spec_name []) key.0 ≡ b → AllByRecursion (λ spec. spec.0.namespace ≡ Spec) (cond b (key ∷ where_key name_cmp (is_at_or_below (spec_name [])) keys) (where_key name_cmp (is_at_or_below (spec_name [])) keys))) [
@@ -136,9 +146,12 @@ kept_in_spec (key ∷ keys) =
     ] refl
 
 all_in_spec : (keys : KeyMap) → AllByRecursion (λ spec. spec.0.namespace ≡ Spec) (map.entries (spec_keys keys))
-all_in_spec keys = subst (AllByRecursion (λ (spec : Name × Entry). spec.0.namespace ≡ Spec)) (sym (entries-retain name_cmp_total name_cmp-IsAntisymmetric keys (is_at_or_below (spec_name [])))) (kept_in_spec (map.entries keys))
+all_in_spec keys =
+    subst (AllByRecursion (λ (spec : Name × Entry). spec.0.namespace ≡ Spec)) (sym (entries-retain name_cmp_total name_cmp-IsAntisymmetric keys (is_at_or_below (spec_name [])))) (kept_in_spec (map.entries keys))
 
-pub get-with_defaults : (keys : KeyMap) (name : Name) → map.get (with_defaults (spec_keys keys) keys) name ≡ option_or (default_at (spec_keys keys) name) (map.get keys name)
+pub get-with_defaults : (keys : KeyMap) (name : Name)
+    → map.get (with_defaults (spec_keys keys) keys) name
+    ≡ option_or (default_at (spec_keys keys) name) (map.get keys name)
 get-with_defaults keys q =
     get-made q (map.entries (spec_keys keys)) keys (map.entries_sorted (spec_keys keys)) (all_in_spec keys)
     ∙ ap (λ o. option_or (if is_made q && not (has_glob q.parts) then option_and_then default_text o else None) (map.get keys q)) (sym (map.get-entries (spec_keys keys) (spec_name q.parts)))

@@ -36,7 +36,8 @@ fits_part-Decides part pattern =
     said (fits_part part pattern) (fits part pattern) (said_fits part pattern)
     (decided_either _ _ (is_text-Decides part pattern) (decided_either _ _ (is_text-Decides pattern (codes "_")) (decided_both _ _ (is_text-Decides pattern (codes "#")) (λ e. e, λ e. e))))
 
-pub matches_glob-Decides : (parts patterns : List Part) → Decides (matches_glob parts patterns) (MatchesGlob parts patterns)
+pub matches_glob-Decides : (parts patterns : List Part)
+    → Decides (matches_glob parts patterns) (MatchesGlob parts patterns)
 matches_glob-Decides [] [] = (λ e. tt, λ h. refl)
 matches_glob-Decides [] (pattern ∷ patterns) = (λ e. absurd cc, λ h. absurd h)
 matches_glob-Decides (part ∷ parts) [] = (λ e. absurd cc, λ h. absurd h)

@@ -27,19 +27,24 @@ module _ {K X Y : Type 0} (R : K → K → Ordering) (f : K → X → Y) where
   is_sorted-changed [] = refl
   is_sorted-changed (e ∷ es) = λ i. below_all-changed e.0 es i && is_sorted-changed es i
 
-  pub find-changed : IsAntisymmetric R → (q : K) (es : List (K × X)) → find R q (changed es) ≡ option_map (f q) (find R q es)
+  pub find-changed : IsAntisymmetric R → (q : K) (es : List (K × X))
+      → find R q (changed es) ≡ option_map (f q) (find R q es)
   find-changed same q [] = refl
   find-changed same q (e ∷ es) = elim (eq_by_cmp R q e.0) as (λ b. eq_by_cmp R q e.0 ≡ b → cond b (Some (f e.0 e.1)) (find R q (changed es)) ≡ option_map (f q) (cond b (Some e.1) (find R q es))) [
     | true ↦ λ is. let alike : e.0 ≡ q = sym (same q e.0 (tied _ is)) in ap (λ k. Some (f k e.1)) alike
     | false ↦ λ is. find-changed same q es
   ] refl
 
-pub entries-specified : (keys : KeyMap) → finite.entries (specified keys) ≡ map (specified_key (spec_keys keys)) (finite.entries (with_defaults (spec_keys keys) keys))
+pub entries-specified : (keys : KeyMap)
+    → finite.entries (specified keys)
+    ≡ map (specified_key (spec_keys keys)) (finite.entries (with_defaults (spec_keys keys) keys))
 entries-specified keys =
     let all = finite.entries (with_defaults (spec_keys keys) keys) in
     finite.entries-from_sorted name_cmp (map (specified_key (spec_keys keys)) all) (subst T (sym (is_sorted-changed name_cmp (specified_entry (spec_keys keys)) all)) (finite.entries_sorted (with_defaults (spec_keys keys) keys)))
 
-pub get-specified : (keys : KeyMap) (name : Name) → finite.get (specified keys) name ≡ option_map (specified_entry (spec_keys keys) name) (finite.get (with_defaults (spec_keys keys) keys) name)
+pub get-specified : (keys : KeyMap) (name : Name)
+    → finite.get (specified keys) name
+    ≡ option_map (specified_entry (spec_keys keys) name) (finite.get (with_defaults (spec_keys keys) keys) name)
 get-specified keys name =
     let all = finite.entries (with_defaults (spec_keys keys) keys) in
     finite.get-entries (specified keys) name

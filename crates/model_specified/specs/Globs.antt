@@ -7,7 +7,8 @@ use Rattle.model_names.specs.Name.{Part}
 
 -- a part fits a pattern's part: it is equal, or the pattern's is `_`, or it is `#` beside an item of an array
 abbrev pub fits_part : Part → Part → Bool
-fits_part part pattern = is_text part pattern || (is_text pattern (codes "_") || (is_text pattern (codes "#") && (is_array_like part && is_canonical part)))
+fits_part part pattern =
+    is_text part pattern || (is_text pattern (codes "_") || (is_text pattern (codes "#") && (is_array_like part && is_canonical part)))
 
 -- a list of parts matches a pattern that is as long, part by part
 abbrev pub matches_glob : List Part → List Part → Bool

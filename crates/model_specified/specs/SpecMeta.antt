@@ -26,7 +26,8 @@ is_pattern_of path name = matches_glob path name.parts && not (name_eq name (spe
 -- the specification keys of a path: the key with the path itself, if it is there, and then each other one whose parts
 -- match the path, in key order
 abbrev pub specs_of : KeyMap → List Part → List Entry
-specs_of specs path = option_to_list (finite.get specs (spec_name path)) ++ map (λ key. key.1) (filter (λ key. is_pattern_of path key.0) (finite.entries specs))
+specs_of specs path =
+    option_to_list (finite.get specs (spec_name path)) ++ map (λ key. key.1) (filter (λ key. is_pattern_of path key.0) (finite.entries specs))
 
 -- metadata laid over other: each name has the text of the first that has it
 unfoldable pub laid_over : List Meta → Meta

@@ -86,4 +86,5 @@ specified_key specs key = (key.0, specified_entry specs key.0 key.1)
 
 -- the specified set: the keys with their defaults, each with its specified entry
 abbrev pub specified : KeyMap → KeyMap
-specified keys = finite.from_sorted (map (specified_key (spec_keys keys)) (finite.entries (with_defaults (spec_keys keys) keys)))
+specified keys =
+    finite.from_sorted (map (specified_key (spec_keys keys)) (finite.entries (with_defaults (spec_keys keys) keys)))

@@ -31,7 +31,8 @@ pub record AreBreachesBy (MayRefuse : List ℕ → Type 0) (value : List ℕ) (m
   pub of_range : Tells (BreaksRange value meta) by_range
   pub of_enum : Tells (BreaksEnum value meta) by_enum
   pub of_pattern : TellsPatternBy MayRefuse value meta by_pattern
-  pub all : breaches ≡ option_to_list by_type ++ (option_to_list by_range ++ (option_to_list by_enum ++ option_to_list by_pattern))
+  pub all : breaches
+      ≡ option_to_list by_type ++ (option_to_list by_range ++ (option_to_list by_enum ++ option_to_list by_pattern))
 
 -- a breach at a key
 abbrev pub violation_at : Name → Broken → Violation
@@ -91,9 +92,13 @@ MayBeRefused HasRisen pattern = HasRisen ⊎ IsNoPattern pattern
 -- what a value breaks first under its metadata: no check before has a breach, and those behind aren't asked
 pub data BreaksAtFirst (HasRisen : Type 0) (value : List ℕ) (meta : Meta) (broken : Broken) : Type 0 where
   ByType : BreaksType value meta broken → BreaksAtFirst HasRisen value meta broken
-  ByRange : Tells (BreaksType value meta) None → BreaksRange value meta broken → BreaksAtFirst HasRisen value meta broken
-  ByEnum : Tells (BreaksType value meta) None → Tells (BreaksRange value meta) None → BreaksEnum value meta broken → BreaksAtFirst HasRisen value meta broken
-  ByPattern : Tells (BreaksType value meta) None → Tells (BreaksRange value meta) None → Tells (BreaksEnum value meta) None → BreaksPattern (λ _. HasRisen) Misses value meta broken → BreaksAtFirst HasRisen value meta broken
+  ByRange : Tells (BreaksType value meta) None → BreaksRange value meta broken
+      → BreaksAtFirst HasRisen value meta broken
+  ByEnum : Tells (BreaksType value meta) None → Tells (BreaksRange value meta) None → BreaksEnum value meta broken
+      → BreaksAtFirst HasRisen value meta broken
+  ByPattern : Tells (BreaksType value meta) None → Tells (BreaksRange value meta) None
+      → Tells (BreaksEnum value meta) None → BreaksPattern (λ _. HasRisen) Misses value meta broken
+      → BreaksAtFirst HasRisen value meta broken
 
 -- some keys have a first violation: those in front of its key have none, and the key breaks this rule first. No pattern
 -- that comes behind it has a part in it

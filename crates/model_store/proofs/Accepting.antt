@@ -24,7 +24,8 @@ put-here n a f = ap (λ b. cond b a (f n)) (itself_number n)
 
 -- ---- the set that a record makes
 
-all_fronts : (rec : Record) (involved ms : List ℕ) → ((m : ℕ) → is_among ms m ≡ true → is_among involved m ≡ true) → list_all (λ m. option_eq nat_eq (front_in rec m) (front_in (only involved rec) m)) ms ≡ true
+all_fronts : (rec : Record) (involved ms : List ℕ) → ((m : ℕ) → is_among ms m ≡ true → is_among involved m ≡ true)
+    → list_all (λ m. option_eq nat_eq (front_in rec m) (front_in (only involved rec) m)) ms ≡ true
 all_fronts rec involved [] there = refl
 all_fronts rec involved (m ∷ ms) there =
     and_from _ _ (ap (λ b. option_eq nat_eq (front_in rec m) (front_of (cond b (rec.fetched m) None))) (there m (among-first m ms)) ∙ number_itself (front_in rec m))
@@ -33,7 +34,8 @@ all_fronts rec involved (m ∷ ms) there =
     front_of : Option Fetched → Option ℕ
     front_of o = option_map (λ (f : Fetched). f.front) o
 
-pub accepts-own : (points : List Name) (handle : ℕ) (rec : Record) (parent : Name) (keys : KeyMap) → accepts rec handle (prepared points handle rec parent keys) ≡ true
+pub accepts-own : (points : List Name) (handle : ℕ) (rec : Record) (parent : Name) (keys : KeyMap)
+    → accepts rec handle (prepared points handle rec parent keys) ≡ true
 accepts-own points handle rec parent keys =
     let involved = involved_in points parent in
     let each = all_fronts rec involved involved (λ m among. among) in
@@ -60,7 +62,8 @@ module _ (store : Store) (history later : List Commit) (number handle : ℕ) (ea
   same_handle = eqb-true number handle (and_parts _ _ ok).0
 
   same_count : length (commits_by number (history ++ later)) ≡ length (commits_by handle history)
-  same_count = eqb-true rec.committed before.committed (and_parts (nat_eq rec.committed before.committed) _ (and_parts (nat_eq number handle) _ ok).1).0
+  same_count =
+      eqb-true rec.committed before.committed (and_parts (nat_eq rec.committed before.committed) _ (and_parts (nat_eq number handle) _ ok).1).0
 
   same_front : (m : ℕ) → is_among involved m ≡ true → now m ≡ earlier m
   same_front m among =
@@ -79,16 +82,20 @@ module _ (store : Store) (history later : List Commit) (number handle : ℕ) (ea
 
   -- and both records keep the same of the involved mounts
   same_kept : (m : ℕ) → is_among involved m ≡ true → before.fetched m ≡ rec.fetched m
-  same_kept m among = by (earlier m) refl ∙ ap (option_map (fetched_at store (history ++ later) number m)) (sym (same_front m among))
+  same_kept m among =
+      by (earlier m) refl ∙ ap (option_map (fetched_at store (history ++ later) number m)) (sym (same_front m among))
     where
-      by : (o : Option ℕ) → earlier m ≡ o → option_map (fetched_at store history handle m) o ≡ option_map (fetched_at store (history ++ later) number m) o
+      by : (o : Option ℕ) → earlier m ≡ o
+          → option_map (fetched_at store history handle m) o
+          ≡ option_map (fetched_at store (history ++ later) number m) o
       by None there = refl
       by (Some front) there =
           let at : KeyMap → Fetched = λ kept. record { front = front; kept = kept } in
           ap (λ n. Some (fetched_at store history n m front)) (sym same_handle)
           ∙ ap (λ (kept : KeyMap). Some (at kept)) (sym (kept-stays store history later number m front (within m front there) none_since))
 
-  pub accepted : set_of store history handle earlier parent keys ≡ set_of store (history ++ later) number now parent keys
+  pub accepted : set_of store history handle earlier parent keys
+      ≡ set_of store (history ++ later) number now parent keys
   accepted =
       ap₂ (λ (n : ℕ) (r : Record). prepared_by (points_of store) n involved r keys (length (map.entries (left_aside (points_of store) parent keys)))) (sym same_handle)
       (only-alike involved before rec same_kept (sym same_count))
@@ -102,10 +109,14 @@ module _ (store : Store) (history later : List Commit) (number handle : ℕ) (ea
   same_now : rec ≡ record_of store (history ++ later) number now
   same_now = record-whole store (history ++ later) number now rec is
 
-  ok_now : accepts (record_of store (history ++ later) number now) number (set_of store history handle earlier parent keys) ≡ true
-  ok_now = sym (ap₂ (λ (r s : Record). accepts r number (prepared (points_of store) handle s parent keys)) same_now same_before) ∙ ok
+  ok_now : accepts (record_of store (history ++ later) number now) number (set_of store history handle earlier parent keys)
+      ≡ true
+  ok_now =
+      sym (ap₂ (λ (r s : Record). accepts r number (prepared (points_of store) handle s parent keys)) same_now same_before)
+      ∙ ok
 
-  pub accepted_record : prepared (points_of store) handle before parent keys ≡ prepared (points_of store) number rec parent keys
+  pub accepted_record : prepared (points_of store) handle before parent keys
+      ≡ prepared (points_of store) number rec parent keys
   accepted_record =
       ap (λ (r : Record). prepared (points_of store) handle r parent keys) same_before
       ∙ accepted store history later number handle earlier now parent keys was.within ok_now

@@ -44,19 +44,25 @@ nothing_same points set m (suc front) = refl
 
 -- no commit, no conflict
 pub free-first : (store : Store) (set : Prepared) → conflict store [] set ≡ None
-free-first store set = nothing_of (conflict_at store [] set) set.touched (λ m among. by m (counts_keys store m) (set.fronts m))
+free-first store set =
+    nothing_of (conflict_at store [] set) set.touched (λ m among. by m (counts_keys store m) (set.fronts m))
   where
-    by : (m : ℕ) (own : Bool) (o : Option ℕ) → option_map (Conflict m) (option_and_then (λ front. cond own (first_same (points_of store) [] set m front) (first_after [] m front)) o) ≡ None
+    by : (m : ℕ) (own : Bool) (o : Option ℕ)
+        → option_map (Conflict m) (option_and_then (λ front. cond own (first_same (points_of store) [] set m front) (first_after [] m front)) o)
+        ≡ None
     by m own None = refl
     by m false (Some front) = ap (option_map (Conflict m)) (nothing_after m front)
     by m true (Some front) = ap (option_map (Conflict m)) (nothing_same (points_of store) set m front)
 
 -- an answer that no step tells is none
-told_off : (bad : Late → Bool) (o : Option Late) (late : Late) (P : Type 0) → ((told : Late) → o ≡ Some told → bad told ≡ false) → (o ≡ None → P → bad late ≡ false) → Follows o (Some late) P → bad late ≡ false
+told_off : (bad : Late → Bool) (o : Option Late) (late : Late) (P : Type 0)
+    → ((told : Late) → o ≡ Some told → bad told ≡ false) → (o ≡ None → P → bad late ≡ false) → Follows o (Some late) P
+    → bad late ≡ false
 told_off bad None late P off behind p = behind refl p
 told_off bad (Some told) late P off behind p = ap bad (some_is late told p) ∙ off told refl
 
-checked_off : (bad : Late → Bool) (points : List Name) (keys : KeyMap) (set : Prepared) (late : Late) (P : Type 0) → ((violation : Violation) (risen : Bool) → bad (Invalid violation risen) ≡ false) → (P → bad late ≡ false)
+checked_off : (bad : Late → Bool) (points : List Name) (keys : KeyMap) (set : Prepared) (late : Late) (P : Type 0)
+    → ((violation : Violation) (risen : Bool) → bad (Invalid violation risen) ≡ false) → (P → bad late ≡ false)
     → Checks points keys set late P → bad late ≡ false
 checked_off bad points keys set late P off behind (inl breaks) = ap bad breaks.is ∙ off breaks.violation breaks.risen
 checked_off bad points keys set late P off behind (inr kept) = behind kept.1
@@ -90,12 +96,17 @@ module _ (formats : Formats) (store : Store) (history : List Commit) (start : Ke
   no_conflict told bad is = let both : None ≡ Some told = sym free ∙ is in absurd cc
 
   -- a set that is too large for a file is told as nothing else
-  large_off : (told : Late) (bad : Late → Bool) → ((m size : ℕ) → bad (TooLarge m size) ≡ false) → too_large formats store start set ≡ Some told → bad told ≡ false
+  large_off : (told : Late) (bad : Late → Bool) → ((m size : ℕ) → bad (TooLarge m size) ≡ false)
+      → too_large formats store start set ≡ Some told → bad told ≡ false
   large_off told bad off e = not_large bad formats store (after start set.changes) set.touched told off e
 
   -- a verdict is of no kind of which no step tells one
-  not_kind : (bad : Late → Bool) → ((aside : ℕ) → bad (Same aside) ≡ false) → ((told : Late) → too_large formats store start set ≡ Some told → bad told ≡ false) → ((violation : Violation) (risen : Bool) → bad (Invalid violation risen) ≡ false)
-      → bad (DatabaseFull (saturated w)) ≡ false → (if_heavy w ≡ None → (told : Late) → if_full h ≡ Some told → bad told ≡ false) → bad (Commits (commit_of set) set.aside) ≡ false
+  not_kind : (bad : Late → Bool) → ((aside : ℕ) → bad (Same aside) ≡ false)
+      → ((told : Late) → too_large formats store start set ≡ Some told → bad told ≡ false)
+      → ((violation : Violation) (risen : Bool) → bad (Invalid violation risen) ≡ false)
+      → bad (DatabaseFull (saturated w)) ≡ false
+      → (if_heavy w ≡ None → (told : Late) → if_full h ≡ Some told → bad told ≡ false)
+      → bad (Commits (commit_of set) set.aside) ≡ false
       → (late : Late) → IsLate formats store history start set late → bad late ≡ false
   not_kind bad same large invalid heavy full commits late is =
       told_off bad (if_untouched set.touched set.aside) late _ (λ told e. not_same bad set.touched set.aside told (same set.aside) e)
@@ -106,16 +117,21 @@ module _ (formats : Formats) (store : Store) (history : List Commit) (start : Ke
       (λ light r. told_off bad (if_full h) late _ (full light)
       (λ _ s. ap bad s ∙ commits) r) q) c) l) p) is
 
-  full_is : (bad : Late → Bool) → bad (HistoryFull (saturated h)) ≡ false → (told : Late) → if_full h ≡ Some told → bad told ≡ false
+  full_is : (bad : Late → Bool) → bad (HistoryFull (saturated h)) ≡ false → (told : Late) → if_full h ≡ Some told
+      → bad told ≡ false
   full_is bad off told e = not_limited bad (nat_lt heaviest_history h) (HistoryFull (saturated h)) told off e
 
   never_blocked : (late : Late) → IsLate formats store history start set late → is_conflict late ≡ false
-  never_blocked = not_kind is_conflict (λ aside. refl) (λ told e. large_off told is_conflict (λ m size. refl) e) (λ violation risen. refl) refl (λ light told e. full_is is_conflict refl told e) refl
+  never_blocked =
+      not_kind is_conflict (λ aside. refl) (λ told e. large_off told is_conflict (λ m size. refl) e) (λ violation risen. refl) refl (λ light told e. full_is is_conflict refl told e) refl
 
-  never_large : too_large formats store start set ≡ None → (late : Late) → IsLate formats store history start set late → is_large late ≡ false
-  never_large small = not_kind is_large (λ aside. refl) (λ told e. let both : None ≡ Some told = sym small ∙ e in absurd cc) (λ violation risen. refl) refl (λ light told e. full_is is_large refl told e) refl
+  never_large : too_large formats store start set ≡ None → (late : Late) → IsLate formats store history start set late
+      → is_large late ≡ false
+  never_large small =
+      not_kind is_large (λ aside. refl) (λ told e. let both : None ≡ Some told = sym small ∙ e in absurd cc) (λ violation risen. refl) refl (λ light told e. full_is is_large refl told e) refl
 
-  never_full : (w ≤ heaviest_map → h ≤ heaviest_history) → (late : Late) → IsLate formats store history start set late → is_full late ≡ false
+  never_full : (w ≤ heaviest_map → h ≤ heaviest_history) → (late : Late) → IsLate formats store history start set late
+      → is_full late ≡ false
   never_full room =
       not_kind is_full (λ aside. refl) (λ told e. large_off told is_full (λ m size. refl) e) (λ violation risen. refl) refl
       (λ light told e. absurd (full_off told (room (ltb-false heaviest_map w (cond_off _ (DatabaseFull (saturated w)) light))) e)) refl
@@ -123,7 +139,8 @@ module _ (formats : Formats) (store : Store) (history : List Commit) (start : Ke
       full_off : (told : Late) → h ≤ heaviest_history → if_full h ≡ Some told → ⊥
       full_off told le e = by (nat_lt heaviest_history h) refl e
         where
-          by : (b : Bool) → nat_lt heaviest_history h ≡ b → cond b (Some (HistoryFull (saturated h))) None ≡ Some told → ⊥
+          by : (b : Bool) → nat_lt heaviest_history h ≡ b → cond b (Some (HistoryFull (saturated h))) None ≡ Some told
+              → ⊥
           by true is some = omega (arith, le, ltb-true heaviest_history h is)
           by false is some = absurd cc
 
@@ -150,10 +167,12 @@ module _ (store : Store) (handle : ℕ) (parent : Name) (keys : KeyMap) where
 
   -- an involved mount was seen before any commit
   front-first : (m : ℕ) → is_among involved m ≡ true → set.fronts m ≡ Some 0
-  front-first m among = ap (λ b. option_map (λ (f : Fetched). f.front) (cond b (cond b (Some (seen_of m)) None) None)) among
+  front-first m among =
+      ap (λ b. option_map (λ (f : Fetched). f.front) (cond b (cond b (Some (seen_of m)) None) None)) among
 
   pub fetched-first : not_fetched set ≡ None
-  fetched-first = nothing_of (λ m. if_unseen m (set.fronts m)) involved (λ m among. ap (if_unseen m) (front-first m among))
+  fetched-first =
+      nothing_of (λ m. if_unseen m (set.fronts m)) involved (λ m among. ap (if_unseen m) (front-first m among))
 
   owned : AreOwned points before wanted_of
   owned = record { nothing_before = none; nothing_wanted = λ m q off. get-other points m keys q off }
@@ -169,54 +188,65 @@ module _ (store : Store) (handle : ℕ) (parent : Name) (keys : KeyMap) where
       let reached = (among-filter (differs before wanted_of) involved m among).0 in
       sym (ap (λ b. unwrap_or (option_map (λ (f : Fetched). f.kept) (cond b (cond b (Some (seen_of m)) None) None)) no_keys) reached)
 
-  name_kept : (m : ℕ) (q : Name) (new : Option Entry) → is_among set.touched m ≡ true → owns points m q ≡ true → find name_cmp q (map.entries set.changes) ≡ Some new → map.get store.start q ≡ map.get (before m) q
-  name_kept m q new among mine found = sym (get-mine points m store.start q mine) ∙ ap (λ k. map.get k q) (as_kept m among)
+  name_kept : (m : ℕ) (q : Name) (new : Option Entry) → is_among set.touched m ≡ true → owns points m q ≡ true
+      → find name_cmp q (map.entries set.changes) ≡ Some new → map.get store.start q ≡ map.get (before m) q
+  name_kept m q new among mine found =
+      sym (get-mine points m store.start q mine) ∙ ap (λ k. map.get k q) (as_kept m among)
 
   -- the map after the set has of a touched mount what is wanted
   stored : (m : ℕ) → is_among set.touched m ≡ true → owned_by points m (after store.start set.changes) ≡ wanted_of m
   stored m among = touched-after points before wanted_of owned store.start set.touched m among (as_kept m among)
 
   -- so a file that takes this isn't too large
-  small_at : (formats : Formats) (m : ℕ) → is_among set.touched m ≡ true → Fits formats store wanted_of m → too_large_at formats store (after store.start set.changes) m ≡ None
+  small_at : (formats : Formats) (m : ℕ) → is_among set.touched m ≡ true → Fits formats store wanted_of m
+      → too_large_at formats store (after store.start set.changes) m ≡ None
   small_at formats m among fits = by (slice_get store.mounts m) refl
     where
-      by : (o : Option Mount) → slice_get store.mounts m ≡ o → option_and_then (too_large_file formats store (after store.start set.changes) m) o ≡ None
+      by : (o : Option Mount) → slice_get store.mounts m ≡ o
+          → option_and_then (too_large_file formats store (after store.start set.changes) m) o ≡ None
       by None there = refl
       by (Some mount) there =
           let none : oversize formats mount (contents store m mount (wanted_of m)) ≡ None = fits_small formats store wanted_of m mount there fits in
           let same : oversize formats mount (contents store m mount (owned_by points m (after store.start set.changes))) ≡ None = ap (λ (k : KeyMap). oversize formats mount (contents store m mount k)) (stored m among) ∙ none in
           cond_nothing mount.by_key _ (ap (option_map (TooLarge m)) same)
 
-  pub small-first : (formats : Formats) → IsEarly formats store set None → too_large formats store store.start set ≡ None
+  pub small-first : (formats : Formats) → IsEarly formats store set None
+      → too_large formats store store.start set ≡ None
   small-first formats early =
       let passed = has_passed formats store set early in
       nothing_of (too_large_at formats store (after store.start set.changes)) set.touched (λ m among. small_at formats m among (passed.fits m among))
 
   -- where the first map and the map after the set are within their limit, so is the history
-  pub room-first : weight store.start ≤ heaviest_map → weight (after store.start set.changes) ≤ heaviest_map → history_weight ([] ++ commit_of set ∷ []) ≤ heaviest_history
+  pub room-first : weight store.start ≤ heaviest_map → weight (after store.start set.changes) ≤ heaviest_map
+      → history_weight ([] ++ commit_of set ∷ []) ≤ heaviest_history
   room-first first_light light =
       let changes = changes_light store.start set.changes (λ q new found is. change-differs points before wanted_of owned store.start set.touched name_kept q new found is) in
       omega (arith, changes, first_light, light, sum_by-cons weight_of_commit (commit_of set) [])
 
 module _ (formats : Formats) (store : Store) (handle : ℕ) (parent : Name) (keys : KeyMap) where
-  pub never-unseen : (early : Option Early) (m : ℕ) → IsEarly formats store (first_set store handle parent keys) early → early ≡ Some (NotFetched m) → ⊥
-  never-unseen early m is unseen = never_unseen formats store (first_set store handle parent keys) (fetched-first store handle parent keys) early m is unseen
+  pub never-unseen : (early : Option Early) (m : ℕ) → IsEarly formats store (first_set store handle parent keys) early
+      → early ≡ Some (NotFetched m) → ⊥
+  never-unseen early m is unseen =
+      never_unseen formats store (first_set store handle parent keys) (fetched-first store handle parent keys) early m is unseen
 
-  pub never-blocked : (late : Late) (m by : ℕ) → IsLate formats store [] store.start (first_set store handle parent keys) late → late ≡ Conflict m by → ⊥
+  pub never-blocked : (late : Late) (m by : ℕ)
+      → IsLate formats store [] store.start (first_set store handle parent keys) late → late ≡ Conflict m by → ⊥
   never-blocked late m by is blocked =
       let set = first_set store handle parent keys in
       let off : is_conflict late ≡ false = never_blocked formats store [] store.start set (free-first store set) late is in
       let on : is_conflict late ≡ true = ap is_conflict blocked in
       absurd cc
 
-  pub never-full : weight store.start ≤ heaviest_map → (late : Late) (n : ℕ) → IsLate formats store [] store.start (first_set store handle parent keys) late → late ≡ HistoryFull n → ⊥
+  pub never-full : weight store.start ≤ heaviest_map → (late : Late) (n : ℕ)
+      → IsLate formats store [] store.start (first_set store handle parent keys) late → late ≡ HistoryFull n → ⊥
   never-full light late n is full =
       let set = first_set store handle parent keys in
       let off : is_full late ≡ false = never_full formats store [] store.start set (free-first store set) (room-first store handle parent keys light) late is in
       let on : is_full late ≡ true = ap is_full full in
       absurd cc
 
-  pub never-large : IsEarly formats store (first_set store handle parent keys) None → (late : Late) (m size : ℕ) → IsLate formats store [] store.start (first_set store handle parent keys) late → late ≡ TooLarge m size → ⊥
+  pub never-large : IsEarly formats store (first_set store handle parent keys) None → (late : Late) (m size : ℕ)
+      → IsLate formats store [] store.start (first_set store handle parent keys) late → late ≡ TooLarge m size → ⊥
   never-large early late m size is large =
       let set = first_set store handle parent keys in
       let off : is_large late ≡ false = never_large formats store [] store.start set (free-first store set) (small-first store handle parent keys formats early) late is in

@@ -25,15 +25,20 @@ pub record IsByKey (store : Store) (m : ℕ) : Type 0 where
 pub mount_by_key : (store : Store) (m : ℕ) → counts_keys store m ≡ true → IsByKey store m
 mount_by_key store m is = by (slice_get store.mounts m) refl is
   where
-    by : (o : Option Mount) → slice_get store.mounts m ≡ o → option_map_or (λ (mount : Mount). mount.by_key) o false ≡ true → IsByKey store m
+    by : (o : Option Mount) → slice_get store.mounts m ≡ o
+        → option_map_or (λ (mount : Mount). mount.by_key) o false ≡ true → IsByKey store m
     by None there key = absurd cc
     by (Some mount) there key = record { mount = mount; there = there; by_key = key }
 
 -- where a file isn't too large, its keys are light and its text is short
-pub not_oversize : (formats : Formats) (mount : Mount) (keys : KeyMap) → oversize formats mount keys ≡ None → (nat_lt heaviest_map (weight keys) ≡ false) × (nat_lt longest_file (length (formats.text mount.kind keys)) ≡ false)
-not_oversize formats mount keys none = by (nat_lt heaviest_map (weight keys)) (nat_lt longest_file (length (formats.text mount.kind keys))) (saturated (weight keys)) (length (formats.text mount.kind keys)) none
+pub not_oversize : (formats : Formats) (mount : Mount) (keys : KeyMap) → oversize formats mount keys ≡ None
+    → (nat_lt heaviest_map (weight keys) ≡ false)
+    × (nat_lt longest_file (length (formats.text mount.kind keys)) ≡ false)
+not_oversize formats mount keys none =
+    by (nat_lt heaviest_map (weight keys)) (nat_lt longest_file (length (formats.text mount.kind keys))) (saturated (weight keys)) (length (formats.text mount.kind keys)) none
   where
-    by : (heavy long : Bool) (n k : ℕ) → cond heavy (Some n) (cond long (Some k) None) ≡ None → (heavy ≡ false) × (long ≡ false)
+    by : (heavy long : Bool) (n k : ℕ) → cond heavy (Some n) (cond long (Some k) None) ≡ None
+        → (heavy ≡ false) × (long ≡ false)
     by true long n k e = absurd cc
     by false true n k e = absurd cc
     by false false n k e = (refl, refl)
@@ -56,14 +61,17 @@ module _ (formats : Formats) (store : Store) (m : ℕ) (keys : KeyMap) (key : Is
       (sym (ap (option_and_then (too_large_file formats store keys m)) key.there ∙ ap (λ b. cond b (option_map (TooLarge m) (oversize formats key.mount (held key.mount))) None) key.by_key) ∙ none)
 
   -- its file can be stored where its keys come from two maps that can
-  pub storable_mix : IsSound formats store → (first second : KeyMap) → IsStorableAt formats store (λ n. first) m → IsStorableAt formats store (λ n. second) m → IsMix first second (owned_by (points_of store) m keys) → IsStorableAt formats store wanted m
+  pub storable_mix : IsSound formats store → (first second : KeyMap) → IsStorableAt formats store (λ n. first) m
+      → IsStorableAt formats store (λ n. second) m → IsMix first second (owned_by (points_of store) m keys)
+      → IsStorableAt formats store wanted m
   storable_mix sound first second one other mix mount there =
       let same : key.mount ≡ mount = some_is key.mount mount (sym key.there ∙ there) in
       sound.mixes m mount there (sym (ap (λ (x : Mount). x.by_key) same) ∙ key.by_key) (contents store m mount first) (contents store m mount second) (held mount) (one mount there) (other mount there)
       (mix-contents store m mount first second (owned_by (points_of store) m keys) mix)
 
   -- so it fits
-  pub fits_by_key : IsSound formats store → too_large_at formats store keys m ≡ None → IsStorableAt formats store wanted m → Fits formats store wanted m
+  pub fits_by_key : IsSound formats store → too_large_at formats store keys m ≡ None
+      → IsStorableAt formats store wanted m → Fits formats store wanted m
   fits_by_key sound none can =
       let small = not_oversize formats key.mount (held key.mount) (small_file none) in
       record {
@@ -80,8 +88,11 @@ module _ (formats : Formats) (store : Store) (m : ℕ) (keys : KeyMap) (key : Is
       }
 
 -- a file that takes keys isn't too large with them
-pub fits_small : (formats : Formats) (store : Store) (wanted : ℕ → KeyMap) (m : ℕ) (mount : Mount) → slice_get store.mounts m ≡ Some mount → Fits formats store wanted m → oversize formats mount (contents store m mount (wanted m)) ≡ None
-fits_small formats store wanted m mount there fits = by (nat_lt heaviest_map (weight keys)) (nat_lt longest_file (length bytes)) light short
+pub fits_small : (formats : Formats) (store : Store) (wanted : ℕ → KeyMap) (m : ℕ) (mount : Mount)
+    → slice_get store.mounts m ≡ Some mount → Fits formats store wanted m
+    → oversize formats mount (contents store m mount (wanted m)) ≡ None
+fits_small formats store wanted m mount there fits =
+    by (nat_lt heaviest_map (weight keys)) (nat_lt longest_file (length bytes)) light short
   where
     keys : KeyMap
     keys = contents store m mount (wanted m)
@@ -90,12 +101,18 @@ fits_small formats store wanted m mount there fits = by (nat_lt heaviest_map (we
     bytes = formats.text mount.kind (contents store m mount (wanted m))
 
     light : heavy_contents m (contents store m mount (wanted m)) ≡ None
-    light = sym (ap (option_and_then (λ (mount : Mount). heavy_contents m (contents store m mount (wanted m)))) there) ∙ fits.light
+    light =
+        sym (ap (option_and_then (λ (mount : Mount). heavy_contents m (contents store m mount (wanted m)))) there)
+        ∙ fits.light
 
     short : long_text m (formats.text mount.kind (contents store m mount (wanted m))) ≡ None
-    short = sym (ap (option_and_then (λ (mount : Mount). long_text m (formats.text mount.kind (contents store m mount (wanted m))))) there) ∙ fits.short
+    short =
+        sym (ap (option_and_then (λ (mount : Mount). long_text m (formats.text mount.kind (contents store m mount (wanted m))))) there)
+        ∙ fits.short
 
-    by : (heavy long : Bool) → cond heavy (Some (TooHeavy m (saturated (weight keys)))) None ≡ None → cond long (Some (TooLong m (length bytes))) None ≡ None → cond heavy (Some (saturated (weight keys))) (cond long (Some (length bytes)) None) ≡ None
+    by : (heavy long : Bool) → cond heavy (Some (TooHeavy m (saturated (weight keys)))) None ≡ None
+        → cond long (Some (TooLong m (length bytes))) None ≡ None
+        → cond heavy (Some (saturated (weight keys))) (cond long (Some (length bytes)) None) ≡ None
     by true long e f = absurd cc
     by false true e f = absurd cc
     by false false e f = refl

@@ -39,7 +39,8 @@ seen : (m : ℕ) (o : Option ℕ) → if_unseen m o ≡ None → (front : ℕ) �
 seen m None e = absurd cc
 seen m (Some front) e = (front, refl)
 
-pub has_passed : (formats : Formats) (store : Store) (set : Prepared) → IsEarly formats store set None → HasPassed formats store set
+pub has_passed : (formats : Formats) (store : Store) (set : Prepared) → IsEarly formats store set None
+    → HasPassed formats store set
 has_passed formats store set early =
     let first = nothing-follows (before_formats store set) _ early in
     let behind = none_behind (not_fetched set) (option_or (long_value store set) (first_some (too_heavy store (wanted_in store set)) set.touched)) first.0 in
@@ -50,7 +51,8 @@ has_passed formats store set early =
     no_long None none = refl
     no_long (Some long) none = absurd cc
 
-    passed : first_some (too_heavy store (wanted_in store set)) set.touched ≡ None → first_long_in (points_of store) set.involved set.keys ≡ None → not_fetched set ≡ None
+    passed : first_some (too_heavy store (wanted_in store set)) set.touched ≡ None
+        → first_long_in (points_of store) set.involved set.keys ≡ None → not_fetched set ≡ None
         → FromFormats formats store set None → HasPassed formats store set
     passed heavy short fetched (inl breaks) = let is = breaks.is in absurd cc
     passed heavy short fetched (inr can) = record {
@@ -65,7 +67,8 @@ has_passed formats store set early =
     }
 
 -- what is wanted for an involved mount has no text that is too long
-pub wanted_short : (formats : Formats) (store : Store) (set : Prepared) (m : ℕ) → HasPassed formats store set → is_among set.involved m ≡ true → AreShort (wanted_in store set m)
+pub wanted_short : (formats : Formats) (store : Store) (set : Prepared) (m : ℕ) → HasPassed formats store set
+    → is_among set.involved m ≡ true → AreShort (wanted_in store set m)
 wanted_short formats store set m passed among =
     owned-short (points_of store) set.keys set.involved passed.short m (λ name mine. owned-among (points_of store) set.involved m name among mine)
 
@@ -90,7 +93,9 @@ within n limit told e = elim (nat_lt limit n) as (λ b. nat_lt limit n ≡ b →
   | false ↦ λ is h. ltb-false limit n is
 ] refl e
 
-pub is_committed : (formats : Formats) (store : Store) (history : List past.Commit) (keys : KeyMap) (set : Prepared) (commit : past.Commit) (aside : ℕ) → IsLate formats store history keys set (Commits commit aside) → IsCommitted formats store history keys set commit
+pub is_committed : (formats : Formats) (store : Store) (history : List past.Commit) (keys : KeyMap) (set : Prepared)
+    (commit : past.Commit) (aside : ℕ) → IsLate formats store history keys set (Commits commit aside)
+    → IsCommitted formats store history keys set commit
 is_committed formats store history keys set commit aside late =
     let is : Late = Commits commit aside in
     let touched = skipped (if_untouched set.touched set.aside) is _ (λ e. let off : is_commit is ≡ false = not_same is_commit set.touched set.aside is refl e in absurd cc) late in
@@ -119,7 +124,9 @@ is_invalid (Invalid violation risen) = true
 is_invalid late = false
 
 -- a set that is refused by the rules has this first violation
-pub is_breach : (formats : Formats) (store : Store) (history : List past.Commit) (keys : KeyMap) (set : Prepared) (violation : Violation) (risen : Bool) → IsLate formats store history keys set (Invalid violation risen) → FirstBreach (points_of store) set.touched (after keys set.changes) violation risen
+pub is_breach : (formats : Formats) (store : Store) (history : List past.Commit) (keys : KeyMap) (set : Prepared)
+    (violation : Violation) (risen : Bool) → IsLate formats store history keys set (Invalid violation risen)
+    → FirstBreach (points_of store) set.touched (after keys set.changes) violation risen
 is_breach formats store history keys set violation risen late =
     let is : Late = Invalid violation risen in
     let touched = skipped (if_untouched set.touched set.aside) is _ (λ e. let off : is_invalid is ≡ false = not_same is_invalid set.touched set.aside is refl e in absurd cc) late in
@@ -139,11 +146,14 @@ is_breach formats store history keys set violation risen late =
     h : ℕ
     h = history_weight (history ++ commit_of set ∷ [])
 
-    of : (other : Violation) (rose : Bool) → Invalid violation risen ≡ Invalid other rose → FirstBreach points set.touched (after keys set.changes) other rose → FirstBreach points set.touched (after keys set.changes) violation risen
+    of : (other : Violation) (rose : Bool) → Invalid violation risen ≡ Invalid other rose
+        → FirstBreach points set.touched (after keys set.changes) other rose
+        → FirstBreach points set.touched (after keys set.changes) violation risen
     of other rose e first = let same : other ≡ violation = cc in let so : rose ≡ risen = cc in
         subst (λ r. FirstBreach points set.touched (after keys set.changes) violation r) so (subst (λ v. FirstBreach points set.touched (after keys set.changes) v rose) same first)
 
-    by : Checks points keys set (Invalid violation risen) (Follows (if_heavy w) (Some is) (Follows (if_full h) (Some is) (is ≡ Commits (commit_of set) set.aside))) → FirstBreach points set.touched (after keys set.changes) violation risen
+    by : Checks points keys set (Invalid violation risen) (Follows (if_heavy w) (Some is) (Follows (if_full h) (Some is) (is ≡ Commits (commit_of set) set.aside)))
+        → FirstBreach points set.touched (after keys set.changes) violation risen
     by (inl breaks) = of breaks.violation breaks.risen breaks.is breaks.first
     by (inr kept) =
         let light = skipped (if_heavy w) is _ (λ e. let off : is_invalid is ≡ false = not_limited is_invalid (nat_lt heaviest_map w) (DatabaseFull (saturated w)) is refl e in absurd cc) kept.1 in
@@ -152,10 +162,14 @@ is_breach formats store history keys set violation risen late =
         absurd cc
 
 -- a mount of a set that commits is blocked by nothing
-pub not_blocked : (store : Store) (history : List past.Commit) (set : Prepared) (m front : ℕ) → conflict store history set ≡ None → is_among set.touched m ≡ true → set.fronts m ≡ Some front → blocking_behind store history set m front ≡ None
-not_blocked store history set m front free among is = by (blocking_behind store history set m front) refl (nothing_at (conflict_at store history set) set.touched m free among)
+pub not_blocked : (store : Store) (history : List past.Commit) (set : Prepared) (m front : ℕ)
+    → conflict store history set ≡ None → is_among set.touched m ≡ true → set.fronts m ≡ Some front
+    → blocking_behind store history set m front ≡ None
+not_blocked store history set m front free among is =
+    by (blocking_behind store history set m front) refl (nothing_at (conflict_at store history set) set.touched m free among)
   where
-    by : (o : Option ℕ) → blocking_behind store history set m front ≡ o → conflict_at store history set m ≡ None → blocking_behind store history set m front ≡ None
+    by : (o : Option ℕ) → blocking_behind store history set m front ≡ o → conflict_at store history set m ≡ None
+        → blocking_behind store history set m front ≡ None
     by None e none = e
     by (Some n) e none =
         let told : conflict_at store history set m ≡ Some (Conflict m n) = ap (λ o. option_map (Conflict m) (option_and_then (blocking_behind store history set m) o)) is ∙ ap (option_map (Conflict m)) e in

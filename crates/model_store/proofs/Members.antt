@@ -47,7 +47,8 @@ from_list_all p (n ∷ ms) m all among = elim (nat_eq m n) as (λ b. nat_eq m n 
 ] refl among
 
 -- where a search tells nothing, it tells nothing of each
-pub nothing_at : {B : Type 0} (f : ℕ → Option B) (ms : List ℕ) (m : ℕ) → first_some f ms ≡ None → is_among ms m ≡ true → f m ≡ None
+pub nothing_at : {B : Type 0} (f : ℕ → Option B) (ms : List ℕ) (m : ℕ) → first_some f ms ≡ None → is_among ms m ≡ true
+    → f m ≡ None
 nothing_at f [] m none among = absurd cc
 nothing_at f (n ∷ ms) m none among = elim (nat_eq m n) as (λ b. nat_eq m n ≡ b → (b || is_among ms m) ≡ true → f m ≡ None) [
   | true ↦ λ is e. ap f (eqb-true m n is) ∙ none_before (f n) (first_some f ms) none
@@ -55,12 +56,16 @@ nothing_at f (n ∷ ms) m none among = elim (nat_eq m n) as (λ b. nat_eq m n �
 ] refl among
 
 -- and where nothing is told of each, a search tells nothing
-pub nothing_of : {B : Type 0} (f : ℕ → Option B) (ms : List ℕ) → ((m : ℕ) → is_among ms m ≡ true → f m ≡ None) → first_some f ms ≡ None
+pub nothing_of : {B : Type 0} (f : ℕ → Option B) (ms : List ℕ) → ((m : ℕ) → is_among ms m ≡ true → f m ≡ None)
+    → first_some f ms ≡ None
 nothing_of f [] each = refl
-nothing_of f (m ∷ ms) each = ap (λ o. option_or o (first_some f ms)) (each m (among-first m ms)) ∙ nothing_of f ms (λ n among. each n (among-rest m n ms among))
+nothing_of f (m ∷ ms) each =
+    ap (λ o. option_or o (first_some f ms)) (each m (among-first m ms))
+    ∙ nothing_of f ms (λ n among. each n (among-rest m n ms among))
 
 -- what is among those that pass is among all, and passes
-pub among-filter : (p : ℕ → Bool) (ms : List ℕ) (m : ℕ) → is_among (filter p ms) m ≡ true → (is_among ms m ≡ true) × (p m ≡ true)
+pub among-filter : (p : ℕ → Bool) (ms : List ℕ) (m : ℕ) → is_among (filter p ms) m ≡ true
+    → (is_among ms m ≡ true) × (p m ≡ true)
 among-filter p [] m e = absurd cc
 among-filter p (n ∷ ms) m e = elim (p n) as (λ b. p n ≡ b → is_among (cond b (n ∷ filter p ms) (filter p ms)) m ≡ true → (is_among (n ∷ ms) m ≡ true) × (p m ≡ true)) [
   | true ↦ λ passes h. elim (nat_eq m n) as (λ b. nat_eq m n ≡ b → (b || is_among (filter p ms) m) ≡ true → (is_among (n ∷ ms) m ≡ true) × (p m ≡ true)) [
@@ -74,14 +79,17 @@ pub is_among-filter : (p : ℕ → Bool) (ms : List ℕ) (m : ℕ) → is_among 
 is_among-filter p [] m = refl
 is_among-filter p (n ∷ ms) m = by (p n) refl (nat_eq m n) refl (is_among-filter p ms m)
   where
-    by : (b : Bool) → p n ≡ b → (e : Bool) → nat_eq m n ≡ e → is_among (filter p ms) m ≡ (is_among ms m && p m) → is_among (cond b (n ∷ filter p ms) (filter p ms)) m ≡ ((e || is_among ms m) && p m)
+    by : (b : Bool) → p n ≡ b → (e : Bool) → nat_eq m n ≡ e → is_among (filter p ms) m ≡ (is_among ms m && p m)
+        → is_among (cond b (n ∷ filter p ms) (filter p ms)) m ≡ ((e || is_among ms m) && p m)
     by true passes true is rest = ap (λ t. t || is_among (filter p ms) m) is ∙ sym (ap p (eqb-true m n is) ∙ passes)
     by true passes false is rest = ap (λ t. t || is_among (filter p ms) m) is ∙ rest
-    by false fails true is rest = rest ∙ and_right (is_among ms m) (p m) (ap p (eqb-true m n is) ∙ fails) ∙ sym (ap p (eqb-true m n is) ∙ fails)
+    by false fails true is rest =
+        rest ∙ and_right (is_among ms m) (p m) (ap p (eqb-true m n is) ∙ fails) ∙ sym (ap p (eqb-true m n is) ∙ fails)
     by false fails false is rest = rest
 
 -- two records that agree on some mounts, and of which as many commits were made, are the same of these alone
-pub only-alike : (ms : List ℕ) (rec other : Record) → ((m : ℕ) → is_among ms m ≡ true → rec.fetched m ≡ other.fetched m) → rec.committed ≡ other.committed → only ms rec ≡ only ms other
+pub only-alike : (ms : List ℕ) (rec other : Record) → ((m : ℕ) → is_among ms m ≡ true → rec.fetched m ≡ other.fetched m)
+    → rec.committed ≡ other.committed → only ms rec ≡ only ms other
 only-alike ms rec other alike count = λ i. record { fetched = λ m. at m i; committed = count i }
   where
     at : (m : ℕ) → (only ms rec).fetched m ≡ (only ms other).fetched m

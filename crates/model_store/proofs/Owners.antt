@@ -19,18 +19,24 @@ module _ (points : List Name) where
   pub one_owner : (i j : ℕ) (q : Name) → owns points i q ≡ true → owns points j q ≡ true → i ≡ j
   one_owner i j q e f = some_is i j (sym (is_number (owner_of points q) i e) ∙ is_number (owner_of points q) j f)
 
-  pub get-owned : (m : ℕ) (keys : KeyMap) (q : Name) → map.get (owned_by points m keys) q ≡ cond (owns points m q) (map.get keys q) None
+  pub get-owned : (m : ℕ) (keys : KeyMap) (q : Name)
+      → map.get (owned_by points m keys) q ≡ cond (owns points m q) (map.get keys q) None
   get-owned m keys q = get-retain name_cmp_total name_cmp-IsAntisymmetric keys (owns points m) q
 
-  pub get-mine : (m : ℕ) (keys : KeyMap) (q : Name) → owns points m q ≡ true → map.get (owned_by points m keys) q ≡ map.get keys q
+  pub get-mine : (m : ℕ) (keys : KeyMap) (q : Name) → owns points m q ≡ true
+      → map.get (owned_by points m keys) q ≡ map.get keys q
   get-mine m keys q is = get-owned m keys q ∙ ap (λ b. cond b (map.get keys q) None) is
 
-  pub get-other : (m : ℕ) (keys : KeyMap) (q : Name) → owns points m q ≡ false → map.get (owned_by points m keys) q ≡ None
+  pub get-other : (m : ℕ) (keys : KeyMap) (q : Name) → owns points m q ≡ false
+      → map.get (owned_by points m keys) q ≡ None
   get-other m keys q is = get-owned m keys q ∙ ap (λ b. cond b (map.get keys q) None) is
 
   -- two maps that agree where a mount owns are the same to it
-  pub same_owned : (m : ℕ) (keys other : KeyMap) → ((q : Name) → owns points m q ≡ true → map.get keys q ≡ map.get other q) → owned_by points m keys ≡ owned_by points m other
-  same_owned m keys other same = map.same_map name_cmp_total name_cmp-IsAntisymmetric _ _ (λ q. get-owned m keys q ∙ by q (owns points m q) refl ∙ sym (get-owned m other q))
+  pub same_owned : (m : ℕ) (keys other : KeyMap)
+      → ((q : Name) → owns points m q ≡ true → map.get keys q ≡ map.get other q)
+      → owned_by points m keys ≡ owned_by points m other
+  same_owned m keys other same =
+      map.same_map name_cmp_total name_cmp-IsAntisymmetric _ _ (λ q. get-owned m keys q ∙ by q (owns points m q) refl ∙ sym (get-owned m other q))
     where
       by : (q : Name) (b : Bool) → owns points m q ≡ b → cond b (map.get keys q) None ≡ cond b (map.get other q) None
       by q true is = same q is
@@ -49,7 +55,8 @@ module _ (points : List Name) where
     | false ↦ λ is h. let rest = owner_among mounts q h in record { mount = rest.mount; among = among-rest m rest.mount mounts rest.among; owned = rest.owned }
   ] refl e
 
-  pub owned-among : (mounts : List ℕ) (m : ℕ) (q : Name) → is_among mounts m ≡ true → owns points m q ≡ true → is_owned points mounts q ≡ true
+  pub owned-among : (mounts : List ℕ) (m : ℕ) (q : Name) → is_among mounts m ≡ true → owns points m q ≡ true
+      → is_owned points mounts q ≡ true
   owned-among [] m q among is = absurd cc
   owned-among (n ∷ mounts) m q among is = elim (nat_eq m n) as (λ b. nat_eq m n ≡ b → (b || is_among mounts m) ≡ true → (owns points n q || is_owned points mounts q) ≡ true) [
     | true ↦ λ same e. ap (λ b. b || is_owned points mounts q) (ap (λ i. owns points i q) (sym (eqb-true m n same)) ∙ is)

@@ -18,7 +18,9 @@ module _ (formats : Formats) (store : Store) where
     pub is : set ≡ set_now store world r asked.parent asked.keys
     pub early : IsEarly formats store (set_now store world r asked.parent asked.keys) None
 
-  set_accepted : (world : World) (r : ℕ) (asked : Asked) (set : Prepared) → IsAsked formats store world.history asked set → accepts (record_of store world.history r (world.fronts r)) r set ≡ true
+  set_accepted : (world : World) (r : ℕ) (asked : Asked) (set : Prepared)
+      → IsAsked formats store world.history asked set
+      → accepts (record_of store world.history r (world.fronts r)) r set ≡ true
       → set ≡ set_now store world r asked.parent asked.keys
   set_accepted world r asked set h ok =
       let found : List Commit = take asked.found world.history in
@@ -31,11 +33,19 @@ module _ (formats : Formats) (store : Store) where
       ∙ accepted store found rest r asked.handle asked.fronts (world.fronts r) asked.parent asked.keys (λ m front is. omega (arith, h.within m front is, length-take-le asked.found world.history h.found)) ok_now
       ∙ ap (λ (commits : List Commit). set_of store commits r (world.fronts r) asked.parent asked.keys) whole
 
-  pub present_set : (world : World) (r p : ℕ) (set : Prepared) → IsSet formats store world.history (world.asked p) (Some set) → accepts (record_of store world.history r (world.fronts r)) r set ≡ true → IsPresent world r p set
+  pub present_set : (world : World) (r p : ℕ) (set : Prepared)
+      → IsSet formats store world.history (world.asked p) (Some set)
+      → accepts (record_of store world.history r (world.fronts r)) r set ≡ true → IsPresent world r p set
   present_set world r p set known ok = by (world.asked p) refl known
     where
-      by : (o : Option Asked) → world.asked p ≡ o → IsSet formats store world.history o (Some set) → IsPresent world r p set
+      by : (o : Option Asked) → world.asked p ≡ o → IsSet formats store world.history o (Some set)
+          → IsPresent world r p set
       by None is h = absurd h
       by (Some asked) is h =
           let same : set ≡ set_now store world r asked.parent asked.keys = set_accepted world r asked set h ok in
-          record { asked = asked; was_asked = is; is = same; early = subst (λ (s : Prepared). IsEarly formats store s None) same h.passed }
+          record {
+            asked = asked;
+            was_asked = is;
+            is = same;
+            early = subst (λ (s : Prepared). IsEarly formats store s None) same h.passed;
+          }

@@ -39,10 +39,12 @@ module _ (formats : Formats) (store : Store) (world : World) (core : Core) (st :
   remake_now : conflict store world.history (set_now store world r present.asked.parent present.asked.keys) ≡ None
       → CanRemake formats store (replay store.start world.history) (set_now store world r present.asked.parent present.asked.keys)
   remake_now free = record {
-    storable = all_among (IsStorableAt formats store (wants (points_of store) (after (replay store.start world.history) now.changes))) now.touched
+    storable =
+        all_among (IsStorableAt formats store (wants (points_of store) (after (replay store.start world.history) now.changes))) now.touched
         (storable_after formats store world.history r (world.fronts r) present.asked.parent present.asked.keys record_now st.legal.each passed free st.sound);
     short = short_after formats store world.history r (world.fronts r) present.asked.parent present.asked.keys record_now st.legal.each passed free st.sound;
-    light = all_among (λ m. counts_keys store m ≡ false → too_heavy store (wants (points_of store) (after (replay store.start world.history) now.changes)) m ≡ None) now.touched
+    light =
+        all_among (λ m. counts_keys store m ≡ false → too_heavy store (wants (points_of store) (after (replay store.start world.history) now.changes)) m ≡ None) now.touched
         (λ m among backend. let fits = backend_fits formats store world.history r (world.fronts r) present.asked.parent present.asked.keys record_now st.legal.each passed free m among backend in fits.light);
     wanted = stored_at formats store world.history r (world.fronts r) present.asked.parent present.asked.keys record_now st.legal.each passed free;
   }

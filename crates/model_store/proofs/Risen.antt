@@ -26,6 +26,8 @@ has_risen-Decides before now = (there (nat_lt before now) refl, back)
     back (inr top) = at_top (nat_lt before now) (eq-eqb now (2 ^ 64 - 1) top)
 
 -- a first violation by a count that rose is one by the test of it
-pub first-tested : (before now : ℕ) (is_chosen : Name → Bool) (keys : KeyMap) (violation : Violation) → IsFirstViolation (HasRisen before now) is_chosen keys (Some violation) → IsFirstViolation (T (has_risen before now)) is_chosen keys (Some violation)
+pub first-tested : (before now : ℕ) (is_chosen : Name → Bool) (keys : KeyMap) (violation : Violation)
+    → IsFirstViolation (HasRisen before now) is_chosen keys (Some violation)
+    → IsFirstViolation (T (has_risen before now)) is_chosen keys (Some violation)
 first-tested before now is_chosen keys violation first =
     first-as (HasRisen before now) (T (has_risen before now)) (checked_keys is_chosen keys) violation (λ six short risen. true_is _ ((has_risen-Decides before now).1 risen)) first

@@ -38,20 +38,25 @@ module _ (store : Store) (history : List Commit) (commit : Commit) (handle : ℕ
   abbrev with_keys : ℕ → KeyMap → Fetched
   with_keys front kept = record { front = front; kept = kept }
 
-  is_at : (m : ℕ) → (storing store commit.touched number keys rec).fetched m ≡ (record_of store (history ++ commit ∷ []) handle moved).fetched m
+  is_at : (m : ℕ)
+      → (storing store commit.touched number keys rec).fetched m
+      ≡ (record_of store (history ++ commit ∷ []) handle moved).fetched m
   is_at m =
       ap (λ (o : Option Fetched). cond (is_among commit.touched m) (kept_from (counts_keys store m) number (keys m) o) o) (is_record.is m)
       ∙ by (is_among commit.touched m) refl (counts_keys store m) refl (fronts m) refl
       ∙ ap (λ b. option_map (fetched_at store (history ++ commit ∷ []) handle m) (cond b (Some number) (fronts m))) (sym (is_among-filter (λ n. not (counts_keys store n)) commit.touched m))
     where
-      by : (t : Bool) → is_among commit.touched m ≡ t → (k : Bool) → counts_keys store m ≡ k → (o : Option ℕ) → fronts m ≡ o
+      by : (t : Bool) → is_among commit.touched m ≡ t → (k : Bool) → counts_keys store m ≡ k → (o : Option ℕ)
+          → fronts m ≡ o
           → cond t (kept_from k number (keys m) (option_map (fetched_at store history handle m) o)) (option_map (fetched_at store history handle m) o)
           ≡ option_map (fetched_at store (history ++ commit ∷ []) handle m) (cond (t && not k) (Some number) o)
       by true among true key None is = refl
-      by true among true key (Some front) is = ap (λ (kept : KeyMap). Some (with_keys front kept)) (sym (by_key m front among key is))
+      by true among true key (Some front) is =
+          ap (λ (kept : KeyMap). Some (with_keys front kept)) (sym (by_key m front among key is))
       by true among false key o is = ap (λ (kept : KeyMap). Some (with_keys number kept)) (sym (backend m among key))
       by false among k key None is = refl
-      by false among k key (Some front) is = ap (λ (kept : KeyMap). Some (with_keys front kept)) (sym (beside m front among is))
+      by false among k key (Some front) is =
+          ap (λ (kept : KeyMap). Some (with_keys front kept)) (sym (beside m front among is))
 
   pub record-stores : IsRecord store (history ++ commit ∷ []) handle moved (storing store commit.touched number keys rec)
   record-stores = record {

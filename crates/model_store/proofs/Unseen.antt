@@ -30,7 +30,8 @@ either : (o p : Option Early) → is_unseen o ≡ false → is_unseen p ≡ fals
 either None p a b = b
 either (Some why) p a b = a
 
-first_of : (f : ℕ → Option Early) (ms : List ℕ) → ((m : ℕ) → is_unseen (f m) ≡ false) → is_unseen (first_some f ms) ≡ false
+first_of : (f : ℕ → Option Early) (ms : List ℕ) → ((m : ℕ) → is_unseen (f m) ≡ false)
+    → is_unseen (first_some f ms) ≡ false
 first_of f [] each = refl
 first_of f (m ∷ ms) each = either (f m) (first_some f ms) (each m) (first_of f ms each)
 
@@ -38,11 +39,14 @@ chosen : (b : Bool) (o : Option Early) → is_unseen o ≡ false → is_unseen (
 chosen true o off = off
 chosen false o off = refl
 
-at_each : (store : Store) (told : ℕ → Mount → Option Early) (m : ℕ) → ((mount : Mount) → is_unseen (told m mount) ≡ false) → (o : Option Mount) → is_unseen (option_and_then (told m) o) ≡ false
+at_each : (store : Store) (told : ℕ → Mount → Option Early) (m : ℕ)
+    → ((mount : Mount) → is_unseen (told m mount) ≡ false) → (o : Option Mount)
+    → is_unseen (option_and_then (told m) o) ≡ false
 at_each store told m off None = refl
 at_each store told m off (Some mount) = off mount
 
-follows_off : (o answer : Option Early) (P : Type 0) → is_unseen o ≡ false → (P → is_unseen answer ≡ false) → Follows o answer P → is_unseen answer ≡ false
+follows_off : (o answer : Option Early) (P : Type 0) → is_unseen o ≡ false → (P → is_unseen answer ≡ false)
+    → Follows o answer P → is_unseen answer ≡ false
 follows_off None answer P off behind p = behind p
 follows_off (Some told) answer P off behind p = ap is_unseen p ∙ off
 
@@ -82,7 +86,8 @@ module _ (formats : Formats) (store : Store) (set : Prepared) (seen : not_fetche
 
   behind_off : (answer : Option Early) → FromFormats formats store set answer → is_unseen answer ≡ false
   behind_off answer (inl breaks) = ap is_unseen breaks.is
-  behind_off answer (inr can) = ap is_unseen can.1 ∙ either (first_some (too_long formats store wanted) set.touched) _ text_off table_off
+  behind_off answer (inr can) =
+      ap is_unseen can.1 ∙ either (first_some (too_long formats store wanted) set.touched) _ text_off table_off
 
   pub never_unseen : (early : Option Early) (m : ℕ) → IsEarly formats store set early → early ≡ Some (NotFetched m) → ⊥
   never_unseen early m is unseen =

@@ -20,7 +20,8 @@ use Rattle.set_split.specs.Parts.{owned_by}
 -- ---- one step
 
 -- where no step tells an answer, the rest holds of it
-pub skipped : {A : Type 0} (o : Option A) (answer : A) (P : Type 0) → (o ≡ Some answer → ⊥) → Follows o (Some answer) P → (o ≡ None) × P
+pub skipped : {A : Type 0} (o : Option A) (answer : A) (P : Type 0) → (o ≡ Some answer → ⊥) → Follows o (Some answer) P
+    → (o ≡ None) × P
 skipped None answer P off h = (refl, h)
 skipped (Some one) answer P off h = absurd (off (sym h))
 
@@ -30,7 +31,8 @@ told None answer P off h = absurd (off h)
 told (Some one) answer P off h = sym h
 
 -- where the rules tell no answer, they are kept and the rest holds of it
-pub unruled : (points : List Name) (keys : KeyMap) (set : Prepared) (answer : Late) (P : Type 0) → ((violation : Violation) (risen : Bool) → answer ≡ Invalid violation risen → ⊥) → Checks points keys set answer P
+pub unruled : (points : List Name) (keys : KeyMap) (set : Prepared) (answer : Late) (P : Type 0)
+    → ((violation : Violation) (risen : Bool) → answer ≡ Invalid violation risen → ⊥) → Checks points keys set answer P
     → KeepRules points set.touched (after keys set.changes) × P
 unruled points keys set answer P off (inl breaks) = absurd (off breaks.violation breaks.risen breaks.is)
 unruled points keys set answer P off (inr kept) = (kept.0, kept.1)
@@ -44,37 +46,48 @@ some_touched (m ∷ touched) aside none = λ e. absurd cc
 
 -- a verdict that a step tells is of none of the other kinds
 module _ (is_kind : Late → Bool) where
-  pub not_same : (touched : List ℕ) (aside : ℕ) (late : Late) → is_kind (Same aside) ≡ false → if_untouched touched aside ≡ Some late → is_kind late ≡ false
+  pub not_same : (touched : List ℕ) (aside : ℕ) (late : Late) → is_kind (Same aside) ≡ false
+      → if_untouched touched aside ≡ Some late → is_kind late ≡ false
   not_same [] aside late off e = ap is_kind (sym (some_is (Same aside) late e)) ∙ off
   not_same (m ∷ touched) aside late off e = absurd cc
 
-  pub not_conflict : (store : Store) (history : List Commit) (set : Prepared) (ms : List ℕ) (late : Late) → ((m by : ℕ) → is_kind (Conflict m by) ≡ false) → first_some (conflict_at store history set) ms ≡ Some late → is_kind late ≡ false
+  pub not_conflict : (store : Store) (history : List Commit) (set : Prepared) (ms : List ℕ) (late : Late)
+      → ((m by : ℕ) → is_kind (Conflict m by) ≡ false) → first_some (conflict_at store history set) ms ≡ Some late
+      → is_kind late ≡ false
   not_conflict store history set [] late off e = absurd cc
   not_conflict store history set (m ∷ ms) late off e = elim (blocking store history set m) as (λ (o : Option ℕ). option_or (option_map (Conflict m) o) (first_some (conflict_at store history set) ms) ≡ Some late → is_kind late ≡ false) [
     | None ↦ λ h. not_conflict store history set ms late off h
     | Some by ↦ λ h. ap is_kind (sym (some_is (Conflict m by) late h)) ∙ off m by
   ] e
 
-  pub not_large : (formats : Formats) (store : Store) (keys : KeyMap) (ms : List ℕ) (late : Late) → ((m size : ℕ) → is_kind (TooLarge m size) ≡ false) → first_some (too_large_at formats store keys) ms ≡ Some late → is_kind late ≡ false
+  pub not_large : (formats : Formats) (store : Store) (keys : KeyMap) (ms : List ℕ) (late : Late)
+      → ((m size : ℕ) → is_kind (TooLarge m size) ≡ false) → first_some (too_large_at formats store keys) ms ≡ Some late
+      → is_kind late ≡ false
   not_large formats store keys [] late off e = absurd cc
-  not_large formats store keys (m ∷ ms) late off e = by (too_large_at formats store keys m) refl (not_large formats store keys ms late off) e
+  not_large formats store keys (m ∷ ms) late off e =
+      by (too_large_at formats store keys m) refl (not_large formats store keys ms late off) e
     where
       -- what is told of a mount is that it is too large
-      of_file : (mount : Mount) (b : Bool) (o : Option ℕ) → cond b (option_map (TooLarge m) o) None ≡ Some late → is_kind late ≡ false
+      of_file : (mount : Mount) (b : Bool) (o : Option ℕ) → cond b (option_map (TooLarge m) o) None ≡ Some late
+          → is_kind late ≡ false
       of_file mount true None h = absurd cc
       of_file mount true (Some size) h = ap is_kind (sym (some_is (TooLarge m size) late h)) ∙ off m size
       of_file mount false o h = absurd cc
 
-      of_mount : (o : Option Mount) → option_and_then (too_large_file formats store keys m) o ≡ Some late → is_kind late ≡ false
+      of_mount : (o : Option Mount) → option_and_then (too_large_file formats store keys m) o ≡ Some late
+          → is_kind late ≡ false
       of_mount None h = absurd cc
-      of_mount (Some mount) h = of_file mount mount.by_key (oversize formats mount (contents store m mount (owned_by (points_of store) m keys))) h
+      of_mount (Some mount) h =
+          of_file mount mount.by_key (oversize formats mount (contents store m mount (owned_by (points_of store) m keys))) h
 
-      by : (o : Option Late) → too_large_at formats store keys m ≡ o → (first_some (too_large_at formats store keys) ms ≡ Some late → is_kind late ≡ false)
+      by : (o : Option Late) → too_large_at formats store keys m ≡ o
+          → (first_some (too_large_at formats store keys) ms ≡ Some late → is_kind late ≡ false)
           → option_or o (first_some (too_large_at formats store keys) ms) ≡ Some late → is_kind late ≡ false
       by None is rest h = rest h
       by (Some one) is rest h = of_mount (slice_get store.mounts m) (is ∙ h)
 
-  pub not_limited : (b : Bool) (one late : Late) → is_kind one ≡ false → cond b (Some one) None ≡ Some late → is_kind late ≡ false
+  pub not_limited : (b : Bool) (one late : Late) → is_kind one ≡ false → cond b (Some one) None ≡ Some late
+      → is_kind late ≡ false
   not_limited true one late off e = ap is_kind (sym (some_is one late e)) ∙ off
   not_limited false one late off e = absurd cc
 
@@ -90,7 +103,8 @@ is_conflict (HistoryFull n) = false
 is_conflict (Commits commit aside) = false
 
 module _ (m by : ℕ) where
-  conflict_among : (store : Store) (history : List Commit) (set : Prepared) (ms : List ℕ) → first_some (conflict_at store history set) ms ≡ Some (Conflict m by) → is_among ms m ≡ true
+  conflict_among : (store : Store) (history : List Commit) (set : Prepared) (ms : List ℕ)
+      → first_some (conflict_at store history set) ms ≡ Some (Conflict m by) → is_among ms m ≡ true
   conflict_among store history set [] e = absurd cc
   conflict_among store history set (n ∷ ms) e = elim (blocking store history set n) as (λ (o : Option ℕ). option_or (option_map (Conflict n) o) (first_some (conflict_at store history set) ms) ≡ Some (Conflict m by) → is_among (n ∷ ms) m ≡ true) [
     | None ↦ λ h. among-rest n m ms (conflict_among store history set ms h)
@@ -101,7 +115,8 @@ module _ (m by : ℕ) where
       same n k h = cc
 
   -- a conflict is what the history tells of the set
-  pub is_blocked : (formats : Formats) (store : Store) (history : List Commit) (keys : KeyMap) (set : Prepared) → IsLate formats store history keys set (Conflict m by) → conflict store history set ≡ Some (Conflict m by)
+  pub is_blocked : (formats : Formats) (store : Store) (history : List Commit) (keys : KeyMap) (set : Prepared)
+      → IsLate formats store history keys set (Conflict m by) → conflict store history set ≡ Some (Conflict m by)
   is_blocked formats store history keys set late =
       let is : Late = Conflict m by in
       let w : ℕ = weight (after keys set.changes) in
@@ -116,8 +131,10 @@ module _ (m by : ℕ) where
       absurd cc) touched.1
 
   -- its mount is touched
-  pub conflict_touched : (formats : Formats) (store : Store) (history : List Commit) (keys : KeyMap) (set : Prepared) → IsLate formats store history keys set (Conflict m by) → is_among set.touched m ≡ true
-  conflict_touched formats store history keys set late = conflict_among store history set set.touched (is_blocked formats store history keys set late)
+  pub conflict_touched : (formats : Formats) (store : Store) (history : List Commit) (keys : KeyMap) (set : Prepared)
+      → IsLate formats store history keys set (Conflict m by) → is_among set.touched m ≡ true
+  conflict_touched formats store history keys set late =
+      conflict_among store history set set.touched (is_blocked formats store history keys set late)
 
 -- ---- too large a file
 
@@ -131,25 +148,35 @@ is_large (HistoryFull n) = false
 is_large (Commits commit aside) = false
 
 module _ (m size : ℕ) where
-  large_among : (formats : Formats) (store : Store) (keys : KeyMap) (ms : List ℕ) → first_some (too_large_at formats store keys) ms ≡ Some (TooLarge m size) → is_among ms m ≡ true
+  large_among : (formats : Formats) (store : Store) (keys : KeyMap) (ms : List ℕ)
+      → first_some (too_large_at formats store keys) ms ≡ Some (TooLarge m size) → is_among ms m ≡ true
   large_among formats store keys [] e = absurd cc
-  large_among formats store keys (n ∷ ms) e = by (too_large_at formats store keys n) refl e (large_among formats store keys ms)
+  large_among formats store keys (n ∷ ms) e =
+      by (too_large_at formats store keys n) refl e (large_among formats store keys ms)
     where
       of_file : (b : Bool) (o : Option ℕ) → cond b (option_map (TooLarge n) o) None ≡ Some (TooLarge m size) → n ≡ m
       of_file true None h = absurd cc
       of_file true (Some k) h = cc
       of_file false o h = absurd cc
 
-      of_mount : (o : Option Mount) → option_and_then (too_large_file formats store keys n) o ≡ Some (TooLarge m size) → n ≡ m
+      of_mount : (o : Option Mount) → option_and_then (too_large_file formats store keys n) o ≡ Some (TooLarge m size)
+          → n ≡ m
       of_mount None h = absurd cc
-      of_mount (Some mount) h = of_file mount.by_key (oversize formats mount (contents store n mount (owned_by (points_of store) n keys))) h
+      of_mount (Some mount) h =
+          of_file mount.by_key (oversize formats mount (contents store n mount (owned_by (points_of store) n keys))) h
 
-      by : (o : Option Late) → too_large_at formats store keys n ≡ o → option_or o (first_some (too_large_at formats store keys) ms) ≡ Some (TooLarge m size) → (first_some (too_large_at formats store keys) ms ≡ Some (TooLarge m size) → is_among ms m ≡ true) → is_among (n ∷ ms) m ≡ true
+      by : (o : Option Late) → too_large_at formats store keys n ≡ o
+          → option_or o (first_some (too_large_at formats store keys) ms) ≡ Some (TooLarge m size)
+          → (first_some (too_large_at formats store keys) ms ≡ Some (TooLarge m size) → is_among ms m ≡ true)
+          → is_among (n ∷ ms) m ≡ true
       by None is h rest = among-rest n m ms (rest h)
-      by (Some told) is h rest = subst (λ j. is_among (n ∷ ms) j ≡ true) (of_mount (slice_get store.mounts n) (is ∙ h)) (among-first n ms)
+      by (Some told) is h rest =
+          subst (λ j. is_among (n ∷ ms) j ≡ true) (of_mount (slice_get store.mounts n) (is ∙ h)) (among-first n ms)
 
   -- too large a file is what is told of the set, which nothing blocks
-  pub is_too_large : (formats : Formats) (store : Store) (history : List Commit) (keys : KeyMap) (set : Prepared) → IsLate formats store history keys set (TooLarge m size) → too_large formats store keys set ≡ Some (TooLarge m size)
+  pub is_too_large : (formats : Formats) (store : Store) (history : List Commit) (keys : KeyMap) (set : Prepared)
+      → IsLate formats store history keys set (TooLarge m size)
+      → too_large formats store keys set ≡ Some (TooLarge m size)
   is_too_large formats store history keys set late =
       let is : Late = TooLarge m size in
       let w : ℕ = weight (after keys set.changes) in
@@ -164,5 +191,7 @@ module _ (m size : ℕ) where
       absurd cc) free.1
 
   -- its mount is touched
-  pub large_touched : (formats : Formats) (store : Store) (history : List Commit) (keys : KeyMap) (set : Prepared) → IsLate formats store history keys set (TooLarge m size) → is_among set.touched m ≡ true
-  large_touched formats store history keys set late = large_among formats store (after keys set.changes) set.touched (is_too_large formats store history keys set late)
+  pub large_touched : (formats : Formats) (store : Store) (history : List Commit) (keys : KeyMap) (set : Prepared)
+      → IsLate formats store history keys set (TooLarge m size) → is_among set.touched m ≡ true
+  large_touched formats store history keys set late =
+      large_among formats store (after keys set.changes) set.touched (is_too_large formats store history keys set late)

@@ -35,7 +35,8 @@ keeping mounts front keys rec = record {
 -- what a record has of a mount that its handle's commit touched: what was wanted there, from the commit's number on; of
 -- a mount by key, from the front on that it has
 abbrev pub kept_from : Bool → ℕ → KeyMap → Option Fetched → Option Fetched
-kept_from by_key number keys fetched = if by_key then option_map (λ had. record { front = had.front; kept = keys }) fetched else Some (record { front = number; kept = keys })
+kept_from by_key number keys fetched =
+    if by_key then option_map (λ had. record { front = had.front; kept = keys }) fetched else Some (record { front = number; kept = keys })
 
 -- a record after its handle's commit of a number, with what was wanted for each touched mount
 abbrev pub storing : Store → List ℕ → ℕ → (ℕ → KeyMap) → Record → Record
@@ -54,7 +55,8 @@ pub record GetMade (store : Store) (core : Core) (r : ℕ) (parent : Name) (fron
   pub good : first_bad store parent ≡ None
   pub front_is : front ≡ length core.history
   pub keys_are : keys ≡ got store core.keys r parent
-  pub next_is : next ≡ record core { records = put r (keeping (involved_in (points_of store) parent) (length core.history) (wants (points_of store) core.keys) (core.records r)) core.records }
+  pub next_is : next
+      ≡ record core { records = put r (keeping (involved_in (points_of store) parent) (length core.history) (wants (points_of store) core.keys) (core.records r)) core.records }
 
 -- the set that the record of a handle makes
 abbrev pub set_made : Store → Core → ℕ → Name → KeyMap → Prepared
@@ -101,7 +103,8 @@ Made formats store core (Get r parent) Memory next = next ≡ core
 Made formats store core (Get r parent) (Bad m) next = (first_bad store parent ≡ Some m) × (next ≡ core)
 Made formats store core (Get r parent) (Got front keys) next = GetMade store core r parent front keys next
 Made formats store core (Prepare r p parent keys) Memory next = next ≡ core
-Made formats store core (Prepare r p parent keys) (Refused why) next = RefusalMade formats store core r parent keys why next
+Made formats store core (Prepare r p parent keys) (Refused why) next =
+    RefusalMade formats store core r parent keys why next
 Made formats store core (Prepare r p parent keys) Ready next = PreparationMade formats store core r p parent keys next
 Made formats store core (Commit r p) Memory next = next ≡ core
 Made formats store core (Commit r p) (Judged front late) next = CommitMade formats store core r p front late next

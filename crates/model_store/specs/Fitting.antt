@@ -37,7 +37,8 @@ abbrev pub long_text : ℕ → List ℕ → Option Early
 long_text m bytes = if nat_lt longest_file (length bytes) then Some (TooLong m (length bytes)) else None
 
 abbrev pub too_long : Formats → Store → (ℕ → KeyMap) → ℕ → Option Early
-too_long formats store wanted = at_mount store (λ m mount. long_text m (formats.text mount.kind (contents store m mount (wanted m))))
+too_long formats store wanted =
+    at_mount store (λ m mount. long_text m (formats.text mount.kind (contents store m mount (wanted m))))
 
 -- the mount is that of the table, and the keys wanted for it make no table
 abbrev pub fault_of_table : {A : Type 0} → Result A TableFault → Option Early
@@ -45,11 +46,13 @@ fault_of_table (Ok mounts) = None
 fault_of_table (Err fault) = Some (BadTable fault)
 
 abbrev pub bad_table : Store → (ℕ → KeyMap) → ℕ → Option Early
-bad_table store wanted = at_mount store (λ m mount. if name_eq mount.at own_point then fault_of_table (table_of (wanted m)) else None)
+bad_table store wanted =
+    at_mount store (λ m mount. if name_eq mount.at own_point then fault_of_table (table_of (wanted m)) else None)
 
 -- the format can hold what the file of the mount is to hold
 abbrev pub IsStorableAt : Formats → Store → (ℕ → KeyMap) → ℕ → Type 0
-IsStorableAt formats store wanted m = (mount : Mount) → slice_get store.mounts m ≡ Some mount → formats.IsStorable mount.kind (contents store m mount (wanted m))
+IsStorableAt formats store wanted m =
+    (mount : Mount) → slice_get store.mounts m ≡ Some mount → formats.IsStorable mount.kind (contents store m mount (wanted m))
 
 -- it can't: the mount, and the whole name of the key at which it breaks
 pub record BreaksAtMount (formats : Formats) (store : Store) (wanted : ℕ → KeyMap) (m : ℕ) (name : Name) : Type 0 where

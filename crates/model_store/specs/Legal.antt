@@ -33,9 +33,11 @@ pub record IsLegalCommit (formats : Formats) (store : Store) (before : KeyMap) (
   pub good : AllByRecursion (λ m. store.is_bad m ≡ false) commit.touched
   pub ascending : IsStrictlySortedBy nat_cmp commit.touched
   pub names : is_sorted name_cmp commit.changes ≡ true
-  pub owned : (name : Name) (new : Option Entry) → find name_cmp name commit.changes ≡ Some new → is_owned (points_of store) commit.touched name ≡ true
+  pub owned : (name : Name) (new : Option Entry) → find name_cmp name commit.changes ≡ Some new
+      → is_owned (points_of store) commit.touched name ≡ true
   pub each : AllByRecursion (HasChange (points_of store) commit.changes) commit.touched
-  pub differs : (name : Name) (new : Option Entry) → find name_cmp name commit.changes ≡ Some new → new ≢ map.get before name
+  pub differs : (name : Name) (new : Option Entry) → find name_cmp name commit.changes ≡ Some new
+      → new ≢ map.get before name
   pub short : (name : Name) (new : Entry) → find name_cmp name commit.changes ≡ Some (Some new) → long_text new ≡ None
   pub fits : AllByRecursion (Fits formats store (λ m. owned_by (points_of store) m (changed_by commit.changes before))) commit.touched
   pub valid : KeepRules (points_of store) commit.touched (changed_by commit.changes before)
@@ -44,7 +46,8 @@ pub record IsLegalCommit (formats : Formats) (store : Store) (before : KeyMap) (
 -- each commit is legal on the map that those before it make
 abbrev pub AreLegal : Formats → Store → KeyMap → List Commit → Type 0
 AreLegal formats store before [] = Unit {0}
-AreLegal formats store before (commit ∷ commits) = IsLegalCommit formats store before commit × AreLegal formats store (changed_by commit.changes before) commits
+AreLegal formats store before (commit ∷ commits) =
+    IsLegalCommit formats store before commit × AreLegal formats store (changed_by commit.changes before) commits
 
 -- and the history isn't too heavy
 pub record IsLegal (formats : Formats) (store : Store) (history : List Commit) : Type 0 where

@@ -27,7 +27,8 @@ seen_from own start history handle front =
 
 -- what a handle has of a mount at a front: the keys that the mount owns of these
 abbrev pub kept_at : Store → List Commit → ℕ → ℕ → ℕ → KeyMap
-kept_at store history handle m front = owned_by (points_of store) m (seen_from (counts_keys store m) store.start history handle front)
+kept_at store history handle m front =
+    owned_by (points_of store) m (seen_from (counts_keys store m) store.start history handle front)
 
 -- what a record has of a mount: the front, and the keys that are kept of it
 pub record Fetched : Type 0 where

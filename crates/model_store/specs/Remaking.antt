@@ -15,4 +15,5 @@ pub record CanRemake (formats : Formats) (store : Store) (keys : KeyMap) (set : 
   pub storable : AllByRecursion (IsStorableAt formats store (wants (points_of store) (after keys set.changes))) set.touched
   pub short : AreShort (after keys set.changes)
   pub light : AllByRecursion (λ m. counts_keys store m ≡ false → too_heavy store (wants (points_of store) (after keys set.changes)) m ≡ None) set.touched
-  pub wanted : (m : ℕ) → is_among set.touched m ≡ true → counts_keys store m ≡ false → wants (points_of store) (after keys set.changes) m ≡ wants (points_of store) set.keys m
+  pub wanted : (m : ℕ) → is_among set.touched m ≡ true → counts_keys store m ≡ false
+      → wants (points_of store) (after keys set.changes) m ≡ wants (points_of store) set.keys m

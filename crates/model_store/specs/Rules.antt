@@ -14,7 +14,8 @@ KeepRules points mounts keys = AreViolations ⊥ (is_owned points mounts) keys [
 -- they break one, and this is the first violation. Only where the matcher's count of refusals rose it may have refused
 -- a pattern of the grammar
 abbrev pub FirstBreach : List Name → List ℕ → KeyMap → Violation → Bool → Type 0
-FirstBreach points mounts keys violation risen = IsFirstViolation (T risen) (is_owned points mounts) keys (Some violation)
+FirstBreach points mounts keys violation risen =
+    IsFirstViolation (T risen) (is_owned points mounts) keys (Some violation)
 
 -- whether a count rose: the test of `HasRisen`
 abbrev pub has_risen : ℕ → ℕ → Bool

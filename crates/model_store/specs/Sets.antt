@@ -48,7 +48,8 @@ differs before wanted m = not (same_keys (wanted m) (before m))
 -- the changes of some mounts together; of two at one name that of the last mount stays
 abbrev pub changes_of : (ℕ → KeyMap) → (ℕ → KeyMap) → List ℕ → List Change
 changes_of before wanted [] = []
-changes_of before wanted (m ∷ mounts) = changes_of before wanted mounts ++ map.entries (difference (before m) (wanted m))
+changes_of before wanted (m ∷ mounts) =
+    changes_of before wanted mounts ++ map.entries (difference (before m) (wanted m))
 
 abbrev pub changes_at : (ℕ → KeyMap) → (ℕ → KeyMap) → List ℕ → Changes
 changes_at before wanted mounts = map.from_entries (changes_of before wanted mounts)
@@ -75,4 +76,5 @@ prepared points handle rec parent keys =
 
 -- the set that fronts make in a history
 abbrev pub set_of : Store → List Commit → ℕ → Fronts → Name → KeyMap → Prepared
-set_of store history handle fronts parent keys = prepared (points_of store) handle (record_of store history handle fronts) parent keys
+set_of store history handle fronts parent keys =
+    prepared (points_of store) handle (record_of store history handle fronts) parent keys

@@ -16,11 +16,13 @@ use Rattle.mounted_files.specs.Short.{AreShort}
 
 -- each key of a map is one of the first or one of the second
 abbrev pub ComeFrom : KeyMap → KeyMap → KeyMap → Type 0
-ComeFrom first second keys = (name : Name) (entry : Entry) → map.get keys name ≡ Some entry → (map.get first name ≡ Some entry) ⊎ (map.get second name ≡ Some entry)
+ComeFrom first second keys =
+    (name : Name) (entry : Entry) → map.get keys name ≡ Some entry → (map.get first name ≡ Some entry) ⊎ (map.get second name ≡ Some entry)
 
 -- a format can hold each map whose keys come from two that it can hold
 abbrev pub Mixes : Formats → Kind → Type 0
-Mixes formats kind = (first second keys : KeyMap) → formats.IsStorable kind first → formats.IsStorable kind second → ComeFrom first second keys → formats.IsStorable kind keys
+Mixes formats kind =
+    (first second keys : KeyMap) → formats.IsStorable kind first → formats.IsStorable kind second → ComeFrom first second keys → formats.IsStorable kind keys
 
 -- a mount that isn't bad can store the keys that it begins with; no text is too long, in what is visible and in what
 -- files keep for others; and a mount by key has a format that mixes, and isn't that of the table
@@ -28,5 +30,7 @@ pub record IsSound (formats : Formats) (store : Store) : Type 0 where
   pub storable : (m : ℕ) → store.is_bad m ≡ false → IsStorableAt formats store (wants (points_of store) store.start) m
   pub short : AreShort store.start
   pub shadow : (m : ℕ) → AreShort (store.shadow m)
-  pub mixes : (m : ℕ) (mount : Mount) → slice_get store.mounts m ≡ Some mount → mount.by_key ≡ true → Mixes formats mount.kind
-  pub elsewhere : (m : ℕ) (mount : Mount) → slice_get store.mounts m ≡ Some mount → mount.by_key ≡ true → name_eq mount.at own_point ≡ false
+  pub mixes : (m : ℕ) (mount : Mount) → slice_get store.mounts m ≡ Some mount → mount.by_key ≡ true
+      → Mixes formats mount.kind
+  pub elsewhere : (m : ℕ) (mount : Mount) → slice_get store.mounts m ≡ Some mount → mount.by_key ≡ true
+      → name_eq mount.at own_point ≡ false

@@ -42,12 +42,14 @@ not_fetched set = first_some (λ m. if_unseen m (set.fronts m)) set.involved
 
 -- the first text that is too long, of the keys that an involved mount owns
 abbrev pub long_value : Store → Prepared → Option Early
-long_value store set = option_map (λ long. ValueTooLong long.0 long.1) (first_long_in (points_of store) set.involved set.keys)
+long_value store set =
+    option_map (λ long. ValueTooLong long.0 long.1) (first_long_in (points_of store) set.involved set.keys)
 
 -- what is refused before the formats are asked: a mount that wasn't fetched, a text that is too long, a file that is
 -- too heavy
 abbrev pub before_formats : Store → Prepared → Option Early
-before_formats store set = option_or (not_fetched set) (option_or (long_value store set) (first_some (too_heavy store (wanted_in store set)) set.touched))
+before_formats store set =
+    option_or (not_fetched set) (option_or (long_value store set) (first_some (too_heavy store (wanted_in store set)) set.touched))
 
 -- the first touched mount whose format can't hold what its file is to hold
 pub record BreaksFirst (formats : Formats) (store : Store) (set : Prepared) (answer : Option Early) : Type 0 where
@@ -62,7 +64,8 @@ pub record BreaksFirst (formats : Formats) (store : Store) (set : Prepared) (ans
 
 -- what is refused of files that their formats can hold: a text that is too long, and keys that make no table
 abbrev pub behind_formats : Formats → Store → Prepared → Option Early
-behind_formats formats store set = option_or (first_some (too_long formats store (wanted_in store set)) set.touched) (first_some (bad_table store (wanted_in store set)) set.touched)
+behind_formats formats store set =
+    option_or (first_some (too_long formats store (wanted_in store set)) set.touched) (first_some (bad_table store (wanted_in store set)) set.touched)
 
 -- what is told from the formats on: the first touched mount that breaks; or all can be stored, and what is told behind
 -- that
@@ -79,7 +82,8 @@ IsEarly formats store set answer = Follows (before_formats store set) answer (Fr
 
 -- a commit changes a name that a set changes of a mount, and another handle made it
 abbrev pub changes_same : List Name → Prepared → ℕ → Commit → Bool
-changes_same points set m commit = list_any (λ change. owns points m change.0 && changes_beside change.0 set.handle commit) (map.entries set.changes)
+changes_same points set m commit =
+    list_any (λ change. owns points m change.0 && changes_beside change.0 set.handle commit) (map.entries set.changes)
 
 -- the first such commit behind a front
 abbrev pub first_same : List Name → List Commit → Prepared → ℕ → ℕ → Option ℕ
@@ -88,7 +92,8 @@ first_same points history set m front = position_from (changes_same points set m
 -- the commit that blocks a mount of a set, by its front of the mount: the first behind it that touches the mount; of a
 -- mount by key, the first of another handle behind it that changes a name which the set changes there
 abbrev pub blocking_behind : Store → List Commit → Prepared → ℕ → ℕ → Option ℕ
-blocking_behind store history set m front = if counts_keys store m then first_same (points_of store) history set m front else first_after history m front
+blocking_behind store history set m front =
+    if counts_keys store m then first_same (points_of store) history set m front else first_after history m front
 
 abbrev pub blocking : Store → List Commit → Prepared → ℕ → Option ℕ
 blocking store history set m = option_and_then (blocking_behind store history set m) (set.fronts m)
@@ -152,7 +157,8 @@ pub record BreaksRules (points : List Name) (keys : KeyMap) (set : Prepared) (an
 
 -- the rules: a violation is the answer, and where there is none something else holds of it
 abbrev pub Checks : List Name → KeyMap → Prepared → Late → Type 0 → Type 0
-Checks points keys set answer Otherwise = BreaksRules points keys set answer ⊎ (KeepRules points set.touched (after keys set.changes) × Otherwise)
+Checks points keys set answer Otherwise =
+    BreaksRules points keys set answer ⊎ (KeepRules points set.touched (after keys set.changes) × Otherwise)
 
 abbrev pub if_heavy : ℕ → Option Late
 if_heavy n = if nat_lt heaviest_map n then Some (DatabaseFull (saturated n)) else None

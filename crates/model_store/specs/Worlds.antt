@@ -40,7 +40,8 @@ pub record Gets (store : Store) (world : World) (r : ℕ) (parent : Name) (front
   pub good : first_bad store parent ≡ None
   pub front_is : front ≡ length world.history
   pub keys_are : keys ≡ got store (present store world) r parent
-  pub next_is : next ≡ record world { fronts = put r (seen_at (involved_in (points_of store) parent) (length world.history) (world.fronts r)) world.fronts }
+  pub next_is : next
+      ≡ record world { fronts = put r (seen_at (involved_in (points_of store) parent) (length world.history) (world.fronts r)) world.fronts }
 
 -- the set of a handle at a parent, now
 abbrev pub set_now : Store → World → ℕ → Name → KeyMap → Prepared
@@ -52,7 +53,8 @@ pub record Refuses (formats : Formats) (store : Store) (world : World) (r : ℕ)
 
 pub record Prepares (formats : Formats) (store : Store) (world : World) (r p : ℕ) (parent : Name) (keys : KeyMap) (next : World) : Type 0 where
   pub early : IsEarly formats store (set_now store world r parent keys) None
-  pub next_is : next ≡ record world { asked = put p (Some (record { handle = r; found = length world.history; fronts = world.fronts r; parent = parent; keys = keys })) world.asked }
+  pub next_is : next
+      ≡ record world { asked = put p (Some (record { handle = r; found = length world.history; fronts = world.fronts r; parent = parent; keys = keys })) world.asked }
 
 -- a commit joins the history, and its handle has then seen it of the mounts that it touches and that count by their
 -- backend; any other verdict changes nothing
@@ -84,9 +86,11 @@ Meant formats store world (Get r parent) Memory next = next ≡ world
 Meant formats store world (Get r parent) (Bad m) next = (first_bad store parent ≡ Some m) × (next ≡ world)
 Meant formats store world (Get r parent) (Got front keys) next = Gets store world r parent front keys next
 Meant formats store world (Prepare r p parent keys) Memory next = next ≡ world
-Meant formats store world (Prepare r p parent keys) (Refused why) next = Refuses formats store world r parent keys why next
+Meant formats store world (Prepare r p parent keys) (Refused why) next =
+    Refuses formats store world r parent keys why next
 Meant formats store world (Prepare r p parent keys) Ready next = Prepares formats store world r p parent keys next
 Meant formats store world (Commit r p) Memory next = next ≡ world
-Meant formats store world (Commit r p) (Judged front late) next = Judges formats store world r p front late × (next ≡ world_after store world r late)
+Meant formats store world (Commit r p) (Judged front late) next =
+    Judges formats store world r p front late × (next ≡ world_after store world r late)
 Meant formats store world (Commit r p) (Failed front) next = Fails formats store world r p front next
 Meant formats store world event answer next = ⊥

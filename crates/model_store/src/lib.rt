@@ -41,34 +41,46 @@ use storage_api::Formats;
 /// kept as its contract says, each answer is the verdict of the definitions, the history is legal, and each record and
 /// each prepared set is theirs.
 pub fn a_store_has_one_owner<F: Formats>(_formats: &F)
-    ensures { (store : Store) → IsSound (formats_of F.Formats) store → (calls : List (Event × Answer)) (core : Core) → Runs (Made (formats_of F.Formats) store) (first_core store) calls core → IsOneOwner (formats_of F.Formats) store calls core }
+    ensures { (store : Store) → IsSound (formats_of F.Formats) store → (calls : List (Event × Answer)) (core : Core)
+        → Runs (Made (formats_of F.Formats) store) (first_core store) calls core
+        → IsOneOwner (formats_of F.Formats) store calls core }
 {}
 
 /// Where a core stands for a world, the files of a set that a record accepts and that nothing blocks can be made anew
 /// of the map after it: also of mounts by key, whose files then hold what others changed beside it.
 pub fn the_files_of_an_accepted_set_can_be_made_anew<F: Formats>(_formats: &F)
-    ensures { (store : Store) (world : World) (core : Core) → Stands (formats_of F.Formats) store world core → (r p : ℕ) (set : Prepared) → core.sets p ≡ Some set → accepts (core.records r) r set ≡ true
+    ensures { (store : Store) (world : World) (core : Core) → Stands (formats_of F.Formats) store world core
+        → (r p : ℕ) (set : Prepared) → core.sets p ≡ Some set → accepts (core.records r) r set ≡ true
         → conflict store core.history set ≡ None → CanRemake (formats_of F.Formats) store core.keys set }
 {}
 
 /// The commit that blocks a mount of a set with its handle's front of it is another handle's: by its backend an own
 /// commit is seen as it is made, and by key own commits are passed over.
 pub fn only_others_block<F: Formats>(_formats: &F)
-    ensures { (store : Store) (calls : List (Event × Answer)) (world : World) → Runs (Meant (formats_of F.Formats) store) first_world calls world → (set : Prepared) (m number : ℕ) (commit : past.Commit) → set.fronts m ≡ world.fronts set.handle m
-        → blocking store world.history set m ≡ Some (number + 1) → slice_get world.history number ≡ Some commit → commit.handle ≢ set.handle }
+    ensures { (store : Store) (calls : List (Event × Answer)) (world : World)
+        → Runs (Meant (formats_of F.Formats) store) first_world calls world
+        → (set : Prepared) (m number : ℕ) (commit : past.Commit) → set.fronts m ≡ world.fronts set.handle m
+        → blocking store world.history set m ≡ Some (number + 1) → slice_get world.history number ≡ Some commit
+        → commit.handle ≢ set.handle }
 {}
 
 /// A set has one verdict before the history is asked. By the history it is absurd that it has none, and it has one at
 /// most of those that no refusal of a pattern can have changed. Rule 6 with a pattern of at most 1,024 bytes is never
 /// one of these.
 pub fn a_set_has_one_verdict<F: Formats>(_formats: &F)
-    ensures some_early { (store : Store) (set : Prepared) → (early : Option Early) × IsEarly (formats_of F.Formats) store set early }
+    ensures some_early { (store : Store) (set : Prepared)
+        → (early : Option Early) × IsEarly (formats_of F.Formats) store set early }
     ensures one_early { (store : Store) (set : Prepared) (early other : Option Early) →
         IsEarly (formats_of F.Formats) store set early → IsEarly (formats_of F.Formats) store set other → early ≡ other }
-    ensures some_late { (store : Store) (history : List past.Commit) (keys : KeyMap) (set : Prepared) → ((late : Late) → IsLate (formats_of F.Formats) store history keys set late → ⊥) → ⊥ }
-    ensures one_late { (store : Store) (history : List past.Commit) (keys : KeyMap) (set : Prepared) (late other : Late) → is_certain late ≡ true → is_certain other ≡ true
-        → IsLate (formats_of F.Formats) store history keys set late → IsLate (formats_of F.Formats) store history keys set other → late ≡ other }
-    ensures refused { (store : Store) (history : List past.Commit) (keys : KeyMap) (set : Prepared) (violation : Violation) (risen : Bool) → IsLate (formats_of F.Formats) store history keys set (Invalid violation risen)
+    ensures some_late { (store : Store) (history : List past.Commit) (keys : KeyMap) (set : Prepared)
+        → ((late : Late) → IsLate (formats_of F.Formats) store history keys set late → ⊥) → ⊥ }
+    ensures one_late { (store : Store) (history : List past.Commit) (keys : KeyMap) (set : Prepared) (late other : Late)
+        → is_certain late ≡ true → is_certain other ≡ true
+        → IsLate (formats_of F.Formats) store history keys set late
+        → IsLate (formats_of F.Formats) store history keys set other → late ≡ other }
+    ensures refused { (store : Store) (history : List past.Commit) (keys : KeyMap) (set : Prepared)
+        (violation : Violation) (risen : Bool)
+        → IsLate (formats_of F.Formats) store history keys set (Invalid violation risen)
         → violation.rule ≡ 6 → length violation.given ≤ longest_pattern → risen ≡ true }
 {}
 
@@ -78,7 +90,9 @@ pub fn a_set_has_one_verdict<F: Formats>(_formats: &F)
 pub fn a_first_set_is_judged_alone<F: Formats>(_formats: &F)
     ensures fetched { (store : Store) (handle : ℕ) (parent : Name) (keys : KeyMap) (early : Option Early) (m : ℕ) →
         IsEarly (formats_of F.Formats) store (first_set store handle parent keys) early → early ≢ Some (NotFetched m) }
-    ensures free { (store : Store) (handle : ℕ) (parent : Name) (keys : KeyMap) (late : Late) (m by : ℕ) → IsLate (formats_of F.Formats) store [] store.start (first_set store handle parent keys) late → late ≢ Conflict m by }
+    ensures free { (store : Store) (handle : ℕ) (parent : Name) (keys : KeyMap) (late : Late) (m by : ℕ)
+        → IsLate (formats_of F.Formats) store [] store.start (first_set store handle parent keys) late
+        → late ≢ Conflict m by }
     ensures room { (store : Store) (handle : ℕ) (parent : Name) (keys : KeyMap) (late : Late) (n : ℕ) →
         weight store.start ≤ heaviest_map → IsLate (formats_of F.Formats) store [] store.start (first_set store handle parent keys) late → late ≢ HistoryFull n }
     ensures small { (store : Store) (handle : ℕ) (parent : Name) (keys : KeyMap) (late : Late) (m n : ℕ) →
@@ -89,17 +103,27 @@ pub fn a_first_set_is_judged_alone<F: Formats>(_formats: &F)
 /// a mount blocks it, a handle has of a mount what it had at the front, a commit moves the fronts and copies of all
 /// touched mounts, and no file is found too large by the history.
 pub fn without_mounts_by_key_all_goes_by_backend<F: Formats>(_formats: &F)
-    ensures blocking { (store : Store) → ((m : ℕ) → counts_keys store m ≡ false) → (history : List past.Commit) (set : Prepared) (m front : ℕ) → blocking_behind store history set m front ≡ past.first_after history m front }
-    ensures kept { (store : Store) → ((m : ℕ) → counts_keys store m ≡ false) → (history : List past.Commit) (handle m front : ℕ) → kept_at store history handle m front ≡ owned_by (points_of store) m (past.replay store.start (take front history)) }
-    ensures fronts { (store : Store) → ((m : ℕ) → counts_keys store m ≡ false) → (mounts : List ℕ) → by_backend store mounts ≡ mounts }
-    ensures stored { (store : Store) → ((m : ℕ) → counts_keys store m ≡ false) → (mounts : List ℕ) (number : ℕ) (keys : ℕ → KeyMap) (rec : Record) (m : ℕ) → (storing store mounts number keys rec).fetched m ≡ (keeping mounts number keys rec).fetched m }
-    ensures small { (store : Store) → ((m : ℕ) → counts_keys store m ≡ false) → (keys : KeyMap) (set : Prepared) → too_large (formats_of F.Formats) store keys set ≡ None }
+    ensures blocking { (store : Store) → ((m : ℕ) → counts_keys store m ≡ false)
+        → (history : List past.Commit) (set : Prepared) (m front : ℕ)
+        → blocking_behind store history set m front ≡ past.first_after history m front }
+    ensures kept { (store : Store) → ((m : ℕ) → counts_keys store m ≡ false)
+        → (history : List past.Commit) (handle m front : ℕ)
+        → kept_at store history handle m front
+        ≡ owned_by (points_of store) m (past.replay store.start (take front history)) }
+    ensures fronts { (store : Store) → ((m : ℕ) → counts_keys store m ≡ false) → (mounts : List ℕ)
+        → by_backend store mounts ≡ mounts }
+    ensures stored { (store : Store) → ((m : ℕ) → counts_keys store m ≡ false)
+        → (mounts : List ℕ) (number : ℕ) (keys : ℕ → KeyMap) (rec : Record) (m : ℕ)
+        → (storing store mounts number keys rec).fetched m ≡ (keeping mounts number keys rec).fetched m }
+    ensures small { (store : Store) → ((m : ℕ) → counts_keys store m ≡ false) → (keys : KeyMap) (set : Prepared)
+        → too_large (formats_of F.Formats) store keys set ≡ None }
 {}
 
 /// A name that no other handle changed behind a front is in the present map what a handle has of it that counts by key
 /// from this front on.
 pub fn a_name_that_nobody_else_changed_is_as_seen()
-    ensures { (start : KeyMap) (history : List past.Commit) (handle front : ℕ) (name : Name) → past.first_change_after history name front handle ≡ None
+    ensures { (start : KeyMap) (history : List past.Commit) (handle front : ℕ) (name : Name)
+        → past.first_change_after history name front handle ≡ None
         → map.get (past.replay start history) name ≡ map.get (seen_from true start history handle front) name }
 {}
 

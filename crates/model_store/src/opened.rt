@@ -12,5 +12,7 @@ use storage_api::Formats;
 
 /// Files that can be written again, with short texts and with the mounts of a table, make a sound store.
 pub fn opened_files_make_a_sound_store<F: Formats>(_formats: &F)
-    ensures { (files : List MountedFile) (procs : ℕ → KeyMap) → AllCanBeWritten F.is_storable files → HaveShortTexts files → IsMadeByKeys (over (λ file. file.mount) files) → IsSound (formats_of F.Formats) (store_of files procs) }
+    ensures { (files : List MountedFile) (procs : ℕ → KeyMap) → AllCanBeWritten F.is_storable files
+        → HaveShortTexts files → IsMadeByKeys (over (λ file. file.mount) files)
+        → IsSound (formats_of F.Formats) (store_of files procs) }
 {}

@@ -27,7 +27,8 @@ turned_back before change = (change.0, map.get before change.0)
 
 -- the inverse of a commit: for each of its changes the name with what the commits before it left there
 abbrev pub inverse : KeyMap → List Commit → ℕ → List Change
-inverse start history number = over (turned_back (replay start (take (number - 1) history))) (changes_made history number)
+inverse start history number =
+    over (turned_back (replay start (take (number - 1) history))) (changes_made history number)
 
 -- ---- what stands in its way
 
@@ -42,7 +43,8 @@ first_name test changes = first_some (λ change. if test change.0 then Some chan
 -- of commits numbered from a number on the first with a name that passes a test, and its first such name
 abbrev pub first_with : (Name → Bool) → ℕ → List Commit → Option (ℕ × Name)
 first_with test number [] = None
-first_with test number (commit ∷ commits) = option_or (option_map (λ name. (number, name)) (first_name test commit.changes)) (first_with test (number + 1) commits)
+first_with test number (commit ∷ commits) =
+    option_or (option_map (λ name. (number, name)) (first_name test commit.changes)) (first_with test (number + 1) commits)
 
 -- the first commit behind that of a number that changes one of its names, and the first such name of the later commit
 abbrev pub overtaken : List Commit → ℕ → Option (ℕ × Name)

@@ -43,11 +43,14 @@ use Rattle.set_split.specs.Parts.{owned_by}
 -- ---- searches among numbers
 
 -- what is among all and passes is among those that pass
-pub into-filter : (p : ℕ → Bool) (ms : List ℕ) (m : ℕ) → is_among ms m ≡ true → p m ≡ true → is_among (filter p ms) m ≡ true
+pub into-filter : (p : ℕ → Bool) (ms : List ℕ) (m : ℕ) → is_among ms m ≡ true → p m ≡ true
+    → is_among (filter p ms) m ≡ true
 into-filter p [] m among passes = absurd cc
 into-filter p (n ∷ ms) m among passes = by (into-filter p ms m) (nat_eq m n) refl (p n) refl among
   where
-    by : (is_among ms m ≡ true → p m ≡ true → is_among (filter p ms) m ≡ true) → (t : Bool) → nat_eq m n ≡ t → (b : Bool) → p n ≡ b → (t || is_among ms m) ≡ true → is_among (cond b (n ∷ filter p ms) (filter p ms)) m ≡ true
+    by : (is_among ms m ≡ true → p m ≡ true → is_among (filter p ms) m ≡ true) → (t : Bool) → nat_eq m n ≡ t
+        → (b : Bool) → p n ≡ b → (t || is_among ms m) ≡ true
+        → is_among (cond b (n ∷ filter p ms) (filter p ms)) m ≡ true
     by rest true is true here h = ap (λ t. t || is_among (filter p ms) m) is
     by rest true is false here h = let same : p m ≡ false = ap p (eqb-true m n is) ∙ here in absurd cc
     by rest false is true here h = or_right (nat_eq m n) (is_among (filter p ms) m) (rest h passes)
@@ -56,28 +59,37 @@ into-filter p (n ∷ ms) m among passes = by (into-filter p ms m) (nat_eq m n) r
 -- ---- changes turned back
 
 -- they stand in the same order
-below-turned : (before : KeyMap) (x : Name) (changes : List Change) → below_all name_cmp x (over (turned_back before) changes) ≡ below_all name_cmp x changes
+below-turned : (before : KeyMap) (x : Name) (changes : List Change)
+    → below_all name_cmp x (over (turned_back before) changes) ≡ below_all name_cmp x changes
 below-turned before x [] = refl
 below-turned before x (change ∷ changes) = ap (λ t. is_lt (name_cmp x change.0) && t) (below-turned before x changes)
 
-sorted-turned : (before : KeyMap) (changes : List Change) → is_sorted name_cmp (over (turned_back before) changes) ≡ is_sorted name_cmp changes
+sorted-turned : (before : KeyMap) (changes : List Change)
+    → is_sorted name_cmp (over (turned_back before) changes) ≡ is_sorted name_cmp changes
 sorted-turned before [] = refl
-sorted-turned before (change ∷ changes) = ap₂ (λ s t. s && t) (below-turned before change.0 changes) (sorted-turned before changes)
+sorted-turned before (change ∷ changes) =
+    ap₂ (λ s t. s && t) (below-turned before change.0 changes) (sorted-turned before changes)
 
 -- what one of them gives
-find-turned : (before : KeyMap) (changes : List Change) (q : Name) → find name_cmp q (over (turned_back before) changes) ≡ option_map (λ _. map.get before q) (find name_cmp q changes)
+find-turned : (before : KeyMap) (changes : List Change) (q : Name)
+    → find name_cmp q (over (turned_back before) changes) ≡ option_map (λ _. map.get before q) (find name_cmp q changes)
 find-turned before [] q = refl
 find-turned before (change ∷ changes) q = by (find-turned before changes q) (eq_by_cmp name_cmp q change.0) refl
   where
-    by : find name_cmp q (over (turned_back before) changes) ≡ option_map (λ _. map.get before q) (find name_cmp q changes) → (t : Bool) → eq_by_cmp name_cmp q change.0 ≡ t
-        → cond t (Some (map.get before change.0)) (find name_cmp q (over (turned_back before) changes)) ≡ option_map (λ _. map.get before q) (cond t (Some change.1) (find name_cmp q changes))
-    by rest true is = let same : change.0 ≡ q = sym (name_cmp-IsAntisymmetric q change.0 (tied _ is)) in ap (λ n. Some (map.get before n)) same
+    by : find name_cmp q (over (turned_back before) changes)
+        ≡ option_map (λ _. map.get before q) (find name_cmp q changes)
+        → (t : Bool) → eq_by_cmp name_cmp q change.0 ≡ t
+        → cond t (Some (map.get before change.0)) (find name_cmp q (over (turned_back before) changes))
+        ≡ option_map (λ _. map.get before q) (cond t (Some change.1) (find name_cmp q changes))
+    by rest true is =
+        let same : change.0 ≡ q = sym (name_cmp-IsAntisymmetric q change.0 (tied _ is)) in ap (λ n. Some (map.get before n)) same
     by rest false is = rest
 
 -- ---- the commit of a number
 
 -- the map right behind it
-up-to : (start : KeyMap) (history : List Commit) (number : ℕ) (commit : Commit) → commit_at history number ≡ Some commit → replay start (take number history) ≡ changed_by commit.changes (replay start (take (number - 1) history))
+up-to : (start : KeyMap) (history : List Commit) (number : ℕ) (commit : Commit) → commit_at history number ≡ Some commit
+    → replay start (take number history) ≡ changed_by commit.changes (replay start (take (number - 1) history))
 up-to start history number commit there =
     let at = stands-at history number commit there in
     let place : number - 1 + 1 ≡ number = omega (arith, at.0) in
@@ -120,10 +132,12 @@ module _ (formats : Formats) (store : Store) (history : List Commit) (handle : �
 
   -- what the record keeps of an involved mount, and its front
   had : (m : ℕ) → is_among involved m ≡ true → before m ≡ owned_by points m present
-  had m among = ap (λ b. unwrap_or (option_map (λ (f : Fetched). f.kept) (cond b (cond b (Some (seen_of m)) (rec.fetched m)) None)) no_keys) among
+  had m among =
+      ap (λ b. unwrap_or (option_map (λ (f : Fetched). f.kept) (cond b (cond b (Some (seen_of m)) (rec.fetched m)) None)) no_keys) among
 
   front-is : (m : ℕ) → is_among involved m ≡ true → set.fronts m ≡ Some (length history)
-  front-is m among = ap (λ b. option_map (λ (f : Fetched). f.front) (cond b (cond b (Some (seen_of m)) (rec.fetched m)) None)) among
+  front-is m among =
+      ap (λ b. option_map (λ (f : Fetched). f.front) (cond b (cond b (Some (seen_of m)) (rec.fetched m)) None)) among
 
   owned : AreOwned points before wanted
   owned = record { nothing_before = none; nothing_wanted = λ m q off. get-other points m made_keys q off }
@@ -137,7 +151,8 @@ module _ (formats : Formats) (store : Store) (history : List Commit) (handle : �
   made : changes_made history number ≡ changes
   made = made-there history number can.commit can.stands
 
-  changed-is : (q : Name) (o : Option (Option Entry)) → find name_cmp q changes ≡ o → is_changed (changes_made history number) q ≡ is_some o
+  changed-is : (q : Name) (o : Option (Option Entry)) → find name_cmp q changes ≡ o
+      → is_changed (changes_made history number) q ≡ is_some o
   changed-is q o found = ap (λ (cs : List Change). is_some (find name_cmp q cs)) made ∙ ap is_some found
 
   -- the present map has at a name of the commit what that gave
@@ -149,7 +164,8 @@ module _ (formats : Formats) (store : Store) (history : List Commit) (handle : �
       ∙ ap (λ o. unwrap_or o (map.get earlier q)) found
 
   -- what is wanted at a name
-  wanted-at : (m : ℕ) (q : Name) → owns points m q ≡ true → (o : Option (Option Entry)) → find name_cmp q changes ≡ o → map.get (wanted m) q ≡ cond (is_some o) (map.get earlier q) (map.get keys q)
+  wanted-at : (m : ℕ) (q : Name) → owns points m q ≡ true → (o : Option (Option Entry)) → find name_cmp q changes ≡ o
+      → map.get (wanted m) q ≡ cond (is_some o) (map.get earlier q) (map.get keys q)
   wanted-at m q mine o found =
       get-mine points m made_keys q mine
       ∙ get-turned_back earlier (changes_made history number) keys q
@@ -165,7 +181,9 @@ module _ (formats : Formats) (store : Store) (history : List Commit) (handle : �
     here = can.reached owner.mount owner.among
 
     had-here : map.get (before owner.mount) q ≡ new
-    had-here = ap (λ k. map.get k q) (had owner.mount here) ∙ get-mine points owner.mount present q owner.owned ∙ present-at q new found
+    had-here =
+        ap (λ k. map.get k q) (had owner.mount here) ∙ get-mine points owner.mount present q owner.owned
+        ∙ present-at q new found
 
     wanted-here : map.get (wanted owner.mount) q ≡ map.get earlier q
     wanted-here = wanted-at owner.mount q owner.owned (Some new) found
@@ -176,19 +194,23 @@ module _ (formats : Formats) (store : Store) (history : List Commit) (handle : �
     change-here : change_at (before owner.mount) (wanted owner.mount) q ≡ Some (map.get earlier q)
     change-here = by (change_at (before owner.mount) (wanted owner.mount) q) refl
       where
-        by : (o : Option (Option Entry)) → change_at (before owner.mount) (wanted owner.mount) q ≡ o → change_at (before owner.mount) (wanted owner.mount) q ≡ Some (map.get earlier q)
+        by : (o : Option (Option Entry)) → change_at (before owner.mount) (wanted owner.mount) q ≡ o
+            → change_at (before owner.mount) (wanted owner.mount) q ≡ Some (map.get earlier q)
         by None is = absurd (apart (change_at-none (before owner.mount) (wanted owner.mount) q is))
         by (Some w) is = is ∙ ap Some (change_at-to (before owner.mount) (wanted owner.mount) q w is ∙ wanted-here)
 
     touched-here : is_among set.touched owner.mount ≡ true
-    touched-here = into-filter (differs before wanted) involved owner.mount here (by (same_keys (wanted owner.mount) (before owner.mount)) refl)
+    touched-here =
+        into-filter (differs before wanted) involved owner.mount here (by (same_keys (wanted owner.mount) (before owner.mount)) refl)
       where
         by : (t : Bool) → same_keys (wanted owner.mount) (before owner.mount) ≡ t → not t ≡ true
-        by true is = absurd (apart (ap (λ k. map.get k q) (sym ((keys_decides (wanted owner.mount) (before owner.mount)).0 is))))
+        by true is =
+            absurd (apart (ap (λ k. map.get k q) (sym ((keys_decides (wanted owner.mount) (before owner.mount)).0 is))))
         by false is = refl
 
     changed-here : map.get set.changes q ≡ Some (map.get earlier q)
-    changed-here = get-changes points before wanted owned set.touched owner.mount q owner.owned touched-here ∙ change-here
+    changed-here =
+        get-changes points before wanted owned set.touched owner.mount q owner.owned touched-here ∙ change-here
 
   -- ---- at any other name
 
@@ -223,7 +245,8 @@ module _ (formats : Formats) (store : Store) (history : List Commit) (handle : �
       sorted : T (is_sorted name_cmp turned)
       sorted = true_is _ (sorted-turned earlier changes ∙ can.legal.names)
 
-      at : (q : Name) (o : Option (Option Entry)) → find name_cmp q changes ≡ o → map.get set.changes q ≡ option_map (λ _. map.get earlier q) (find name_cmp q changes)
+      at : (q : Name) (o : Option (Option Entry)) → find name_cmp q changes ≡ o
+          → map.get set.changes q ≡ option_map (λ _. map.get earlier q) (find name_cmp q changes)
       at q None is = unchanged-here q is ∙ sym (ap (option_map (λ _. map.get earlier q)) is)
       at q (Some new) is = changed-here q new is ∙ sym (ap (option_map (λ _. map.get earlier q)) is)
 
@@ -239,7 +262,8 @@ module _ (formats : Formats) (store : Store) (history : List Commit) (handle : �
       end : drop (length history) history ≡ []
       end = drop_all (length history) history (omega arith)
 
-      by : (own : Bool) → cond own (first_same points history set m (length history)) (first_after history m (length history)) ≡ None
+      by : (own : Bool)
+          → cond own (first_same points history set m (length history)) (first_after history m (length history)) ≡ None
       by false = ap (position_from (touches m) (length history + 1)) end
       by true = ap (position_from (changes_same points set m) (length history + 1)) end
 
@@ -274,7 +298,8 @@ none_touched : (touched : List ℕ) (aside : ℕ) (late : Late) → if_untouched
 none_touched [] aside late e = refl
 none_touched (m ∷ touched) aside late e = absurd cc
 
-never_same : (formats : Formats) (store : Store) (history : List Commit) (keys : KeyMap) (set : Prepared) (aside : ℕ) → set.touched ≢ [] → IsLate formats store history keys set (Same aside) → ⊥
+never_same : (formats : Formats) (store : Store) (history : List Commit) (keys : KeyMap) (set : Prepared) (aside : ℕ)
+    → set.touched ≢ [] → IsLate formats store history keys set (Same aside) → ⊥
 never_same formats store history keys set aside some late =
     let is : Late = Same aside in
     let w : ℕ = weight (after keys set.changes) in
@@ -289,15 +314,21 @@ never_same formats store history keys set aside some late =
     absurd cc) late))
 
 module _ (formats : Formats) (store : Store) (history : List Commit) (handle : ℕ) (parent : Name) (rec : Record) (keys : KeyMap) (number : ℕ) (can : CanUndo formats store history parent keys number) where
-  pub never-unfetched : (m : ℕ) → IsEarly formats store (undo_set store history handle parent rec keys number) (Some (NotFetched m)) → ⊥
-  never-unfetched m is = never_unseen formats store (undo_set store history handle parent rec keys number) (fetched formats store history handle parent rec keys number can) (Some (NotFetched m)) m is refl
+  pub never-unfetched : (m : ℕ)
+      → IsEarly formats store (undo_set store history handle parent rec keys number) (Some (NotFetched m)) → ⊥
+  never-unfetched m is =
+      never_unseen formats store (undo_set store history handle parent rec keys number) (fetched formats store history handle parent rec keys number can) (Some (NotFetched m)) m is refl
 
-  pub never-blocked : (m by : ℕ) → IsLate formats store history (replay store.start history) (undo_set store history handle parent rec keys number) (Conflict m by) → ⊥
+  pub never-blocked : (m by : ℕ)
+      → IsLate formats store history (replay store.start history) (undo_set store history handle parent rec keys number) (Conflict m by)
+      → ⊥
   never-blocked m by is =
       let set = undo_set store history handle parent rec keys number in
       let one : ◌≡◌ {A = Option Late} None (Some (Conflict m by)) = sym (free formats store history handle parent rec keys number can) ∙ is_blocked m by formats store history (replay store.start history) set is in
       absurd cc
 
-  pub never-same : (aside : ℕ) → IsLate formats store history (replay store.start history) (undo_set store history handle parent rec keys number) (Same aside) → ⊥
+  pub never-same : (aside : ℕ)
+      → IsLate formats store history (replay store.start history) (undo_set store history handle parent rec keys number) (Same aside)
+      → ⊥
   never-same aside is =
       never_same formats store history (replay store.start history) (undo_set store history handle parent rec keys number) aside (touches-some formats store history handle parent rec keys number can) is

@@ -41,19 +41,25 @@ use Rattle.set_split.proofs.OwningLemmas.{owner_is}
 -- ---- the commit of a number
 
 -- it is legal where it stands
-legal-at : (formats : Formats) (store : Store) (k : ℕ) (before : KeyMap) (commits : List Commit) (commit : Commit) → AreLegal formats store before commits → slice_get commits k ≡ Some commit → IsLegalCommit formats store (replay before (take k commits)) commit
+legal-at : (formats : Formats) (store : Store) (k : ℕ) (before : KeyMap) (commits : List Commit) (commit : Commit)
+    → AreLegal formats store before commits → slice_get commits k ≡ Some commit
+    → IsLegalCommit formats store (replay before (take k commits)) commit
 legal-at formats store k before [] commit legal there = absurd cc
-legal-at formats store zero before (first ∷ commits) commit legal there = subst (IsLegalCommit formats store before) (some_is first commit there) legal.0
-legal-at formats store (suc k) before (first ∷ commits) commit legal there = legal-at formats store k (changed_by first.changes before) commits commit legal.1 there
+legal-at formats store zero before (first ∷ commits) commit legal there =
+    subst (IsLegalCommit formats store before) (some_is first commit there) legal.0
+legal-at formats store (suc k) before (first ∷ commits) commit legal there =
+    legal-at formats store k (changed_by first.changes before) commits commit legal.1 there
 
 -- there is one where the inverse is there
 no_commit : Commit
 no_commit = record { handle = 0; touched = []; changes = [] }
 
-there-is : (history : List Commit) (number : ℕ) → IsThere history number → commit_at history number ≡ Some (get_or history (number - 1) no_commit)
+there-is : (history : List Commit) (number : ℕ) → IsThere history number
+    → commit_at history number ≡ Some (get_or history (number - 1) no_commit)
 there-is history number there =
     let later : nat_eq number 0 ≡ false = ne_eqb number 0 (λ e. omega (arith, e, there.some)) in
-    ap (λ b. cond b None (slice_get history (number - 1))) later ∙ slice_get-get_or history (number - 1) no_commit (omega (arith, there.some, there.within))
+    ap (λ b. cond b None (slice_get history (number - 1))) later
+    ∙ slice_get-get_or history (number - 1) no_commit (omega (arith, there.some, there.within))
 
 -- ---- numbers of mounts
 
@@ -61,16 +67,19 @@ range-among : (a n m : ℕ) → a ≤ m → m < a + n → is_among (range_with_l
 range-among a zero m from to = absurd (omega (arith, from, to))
 range-among a (suc n) m from to = by (λ later. range-among (a + 1) n m later (omega (arith, to))) (nat_eq m a) refl
   where
-    by : (a + 1 ≤ m → is_among (range_with_len (a + 1) n) m ≡ true) → (t : Bool) → nat_eq m a ≡ t → (t || is_among (range_with_len (a + 1) n) m) ≡ true
+    by : (a + 1 ≤ m → is_among (range_with_len (a + 1) n) m ≡ true) → (t : Bool) → nat_eq m a ≡ t
+        → (t || is_among (range_with_len (a + 1) n) m) ≡ true
     by rest true is = refl
     by rest false is = rest (omega (arith, from, eqb-false m a is))
 
 -- a weaker test passes too
-any-weaker : {A : Type 0} (p q : A → Bool) (xs : List A) → ((x : A) → p x ≡ true → q x ≡ true) → list_any p xs ≡ true → list_any q xs ≡ true
+any-weaker : {A : Type 0} (p q : A → Bool) (xs : List A) → ((x : A) → p x ≡ true → q x ≡ true) → list_any p xs ≡ true
+    → list_any q xs ≡ true
 any-weaker p q [] each some = absurd cc
 any-weaker p q (x ∷ xs) each some = by (any-weaker p q xs each) (p x) refl some
   where
-    by : (list_any p xs ≡ true → list_any q xs ≡ true) → (t : Bool) → p x ≡ t → (t || list_any p xs) ≡ true → (q x || list_any q xs) ≡ true
+    by : (list_any p xs ≡ true → list_any q xs ≡ true) → (t : Bool) → p x ≡ t → (t || list_any p xs) ≡ true
+        → (q x || list_any q xs) ≡ true
     by rest true is h = or_left (q x) (list_any q xs) (each x is)
     by rest false is h = or_right (q x) (list_any q xs) (rest h)
 
@@ -80,16 +89,21 @@ any-weaker p q (x ∷ xs) each some = by (any-weaker p q xs each) (p x) refl som
 at_itself : (name : Name) → is_at_or_below name name ≡ true
 at_itself name = (is_at_or_below-Decides name name).1 (inl refl)
 
-root_above : (namespace : Namespace) (name : Name) → name.namespace ≡ namespace → is_at_or_below (record { namespace = namespace; parts = [] }) name ≡ true
-root_above namespace name same = (is_at_or_below-Decides (record { namespace = namespace; parts = [] }) name).1 (by name.parts refl)
+root_above : (namespace : Namespace) (name : Name) → name.namespace ≡ namespace
+    → is_at_or_below (record { namespace = namespace; parts = [] }) name ≡ true
+root_above namespace name same =
+    (is_at_or_below-Decides (record { namespace = namespace; parts = [] }) name).1 (by name.parts refl)
   where
     by : (parts : List Part) → name.parts ≡ parts → IsBelowOrSame name (record { namespace = namespace; parts = [] })
     by [] is = inl (λ i. record { namespace = same i; parts = is i })
-    by (part ∷ rest) is = inr (record { same_namespace = same; more = part ∷ rest; some_more = λ e. absurd cc; parts = is })
+    by (part ∷ rest) is =
+        inr (record { same_namespace = same; more = part ∷ rest; some_more = λ e. absurd cc; parts = is })
 
 -- a namespace with files has none of these places
-not_at : (namespace : Namespace) (n : ℕ) → has_files namespace ≡ true → list_any (λ other. nat_eq n (rank other)) file_namespaces ≡ false → rank namespace ≡ n → ⊥
-not_at namespace n files none is = true≢false (sym files ∙ ap (λ r. list_any (λ other. nat_eq r (rank other)) file_namespaces) is ∙ none)
+not_at : (namespace : Namespace) (n : ℕ) → has_files namespace ≡ true
+    → list_any (λ other. nat_eq n (rank other)) file_namespaces ≡ false → rank namespace ≡ n → ⊥
+not_at namespace n files none is =
+    true≢false (sym files ∙ ap (λ r. list_any (λ other. nat_eq r (rank other)) file_namespaces) is ∙ none)
 
 module _ (points : List Name) (is : IsPoints points) where
   -- the point of a mount that owns a name
@@ -118,11 +132,14 @@ module _ (points : List Name) (is : IsPoints points) where
 
   -- ---- a parent involves each touched mount
 
-  involved_if : (parent : Name) (m : ℕ) → m < length points → is_involved points parent m ≡ true → is_among (involved_in points parent) m ≡ true
-  involved_if parent m within passes = into-filter (is_involved points parent) (range_with_len 0 (length points)) m (range-among 0 (length points) m (omega arith) (omega (arith, within))) passes
+  involved_if : (parent : Name) (m : ℕ) → m < length points → is_involved points parent m ≡ true
+      → is_among (involved_in points parent) m ≡ true
+  involved_if parent m within passes =
+      into-filter (is_involved points parent) (range_with_len 0 (length points)) m (range-among 0 (length points) m (omega arith) (omega (arith, within))) passes
 
   -- its own point
-  at_point : (m : ℕ) (point : Name) → slice_get points m ≡ Some point → has_files point.namespace ≡ true → is_among (involved_in points point) m ≡ true
+  at_point : (m : ℕ) (point : Name) → slice_get points m ≡ Some point → has_files point.namespace ≡ true
+      → is_among (involved_in points point) m ≡ true
   at_point m point there files =
       let named : (rank point.namespace == 0) ≡ false = false_from_ne_true _ (λ e. not_at point.namespace 0 files refl (eqb-true _ _ e)) in
       let here : is_involved_at points m point ≡ true = or_right (owns points m point) _ (ap (stands_below point) there ∙ at_itself point) in
@@ -133,17 +150,20 @@ module _ (points : List Name) (is : IsPoints points) where
   abbrev root_in : Namespace → Name
   root_in namespace = record { namespace = namespace; parts = [] }
 
-  at_root : (m : ℕ) (point : Name) → slice_get points m ≡ Some point → has_files point.namespace ≡ true → is_among (involved_in points cascading_root) m ≡ true
+  at_root : (m : ℕ) (point : Name) → slice_get points m ≡ Some point → has_files point.namespace ≡ true
+      → is_among (involved_in points cascading_root) m ≡ true
   at_root m point there files =
       involved_if cascading_root m (slice_get_within points m point there)
       (any-map root_in (is_involved_at points m) file_namespaces
       ∙ any-weaker (λ other. nat_eq (rank point.namespace) (rank other)) (λ other. is_involved_at points m (root_in other)) file_namespaces below files)
     where
-      below : (other : Namespace) → nat_eq (rank point.namespace) (rank other) ≡ true → is_involved_at points m (root_in other) ≡ true
+      below : (other : Namespace) → nat_eq (rank point.namespace) (rank other) ≡ true
+          → is_involved_at points m (root_in other) ≡ true
       below other same =
           or_right (owns points m (root_in other)) _ (ap (stands_below (root_in other)) there ∙ root_above other point (same_rank point.namespace other (eqb-true _ _ same)))
 
-  reached : (touched : List ℕ) → ((m : ℕ) → is_among touched m ≡ true → (name : Name) × (owns points m name ≡ true)) → (m : ℕ) → is_among touched m ≡ true → is_among (involved_in points (parent_over points touched)) m ≡ true
+  reached : (touched : List ℕ) → ((m : ℕ) → is_among touched m ≡ true → (name : Name) × (owns points m name ≡ true))
+      → (m : ℕ) → is_among touched m ≡ true → is_among (involved_in points (parent_over points touched)) m ≡ true
   reached [] each m among = absurd cc
   reached (n ∷ []) each m among =
       let own = own_point n (each n (among-first n [])).0 (each n (among-first n [])).1 in
@@ -161,7 +181,8 @@ module _ (points : List Name) (is : IsPoints points) where
   -- ---- a get shows what the mounts have
 
   module _ (procs : KeyMap) (are_proc : (name : Name) (entry : Entry) → map.get procs name ≡ Some entry → name.namespace ≡ Proc) (present : KeyMap) (parent : Name) (m : ℕ) (among : is_among (involved_in points parent) m ≡ true) where
-    in-reach : (name : Name) → owns points m name ≡ true → map.get (in_reach points parent present) name ≡ map.get present name
+    in-reach : (name : Name) → owns points m name ≡ true
+        → map.get (in_reach points parent present) name ≡ map.get present name
     in-reach name mine =
         get-retain name_cmp_total name_cmp-IsAntisymmetric present (is_reached points parent) name
         ∙ ap (λ b. cond b (map.get present name) None) (owned-among points (involved_in points parent) m name among mine)
@@ -173,12 +194,17 @@ module _ (points : List Name) (is : IsPoints points) where
         by None is = is
         by (Some entry) is = absurd (not_proc m name mine (are_proc name entry is))
 
-    with-proc : (b : Bool) (name : Name) → owns points m name ≡ true → map.get (cond b (with_all procs (in_reach points parent present)) (in_reach points parent present)) name ≡ map.get present name
+    with-proc : (b : Bool) (name : Name) → owns points m name ≡ true
+        → map.get (cond b (with_all procs (in_reach points parent present)) (in_reach points parent present)) name
+        ≡ map.get present name
     with-proc true name mine =
-        get-with_all procs (in_reach points parent present) name ∙ ap (λ o. option_or o (map.get (in_reach points parent present) name)) (none-proc name mine) ∙ in-reach name mine
+        get-with_all procs (in_reach points parent present) name
+        ∙ ap (λ o. option_or o (map.get (in_reach points parent present) name)) (none-proc name mine)
+        ∙ in-reach name mine
     with-proc false name mine = in-reach name mine
 
-    shown : owned_by points m (cond (shows_proc parent.namespace) (with_all procs (in_reach points parent present)) (in_reach points parent present)) ≡ owned_by points m present
+    shown : owned_by points m (cond (shows_proc parent.namespace) (with_all procs (in_reach points parent present)) (in_reach points parent present))
+        ≡ owned_by points m present
     shown = same_owned points m _ present (with-proc (shows_proc parent.namespace))
 
 module _ (formats : Formats) (store : Store) (procs : ℕ → KeyMap) (history : List Commit) (handle number : ℕ) (points : IsPoints (points_of store)) (are_proc : (name : Name) (entry : Entry) → map.get (procs handle) name ≡ Some entry → name.namespace ≡ Proc)
@@ -193,11 +219,13 @@ module _ (formats : Formats) (store : Store) (procs : ℕ → KeyMap) (history :
   stands = there-is history number there
 
   legal_here : IsLegalCommit formats store (replay store.start (take (number - 1) history)) commit
-  legal_here = legal-at formats store (number - 1) store.start history commit legal.each (stands-at history number commit stands).1
+  legal_here =
+      legal-at formats store (number - 1) store.start history commit legal.each (stands-at history number commit stands).1
 
   -- each touched mount has a change, of a name that it owns
   each : (m : ℕ) → is_among commit.touched m ≡ true → (name : Name) × (owns (points_of store) m name ≡ true)
-  each m among = let has = from_all (HasChange (points_of store) commit.changes) commit.touched m legal_here.each among in (has.name, has.owned)
+  each m among =
+      let has = from_all (HasChange (points_of store) commit.changes) commit.touched m legal_here.each among in (has.name, has.owned)
 
   parent_is : parent ≡ parent_over (points_of store) commit.touched
   parent_is = ap (λ (o : Option Commit). parent_over (points_of store) (option_map_or (λ c. c.touched) o [])) stands

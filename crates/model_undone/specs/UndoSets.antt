@@ -38,15 +38,18 @@ taken_back store history number keys = changed_by (inverse store.start history n
 
 -- the record of a handle that has got a parent behind the whole history
 abbrev pub record_got : Store → List Commit → Name → Record → Record
-record_got store history parent rec = keeping (involved_in (points_of store) parent) (length history) (wants (points_of store) (replay store.start history)) rec
+record_got store history parent rec =
+    keeping (involved_in (points_of store) parent) (length history) (wants (points_of store) (replay store.start history)) rec
 
 -- the set that undoes a commit, of the keys that the get gave
 abbrev pub undo_set : Store → List Commit → ℕ → Name → Record → KeyMap → ℕ → Prepared
-undo_set store history handle parent rec keys number = prepared (points_of store) handle (record_got store history parent rec) parent (taken_back store history number keys)
+undo_set store history handle parent rec keys number =
+    prepared (points_of store) handle (record_got store history parent rec) parent (taken_back store history number keys)
 
 -- keys have of each mount that a parent involves what the present map has of it
 abbrev pub ShowPresent : Store → List Commit → Name → KeyMap → Type 0
-ShowPresent store history parent keys = (m : ℕ) → is_among (involved_in (points_of store) parent) m ≡ true → wants (points_of store) keys m ≡ wants (points_of store) (replay store.start history) m
+ShowPresent store history parent keys =
+    (m : ℕ) → is_among (involved_in (points_of store) parent) m ≡ true → wants (points_of store) keys m ≡ wants (points_of store) (replay store.start history) m
 
 -- a commit can be undone from some keys at a parent: it is legal where it stands, none overtakes it, the parent
 -- involves the mounts that it touched, and the keys show them as they are

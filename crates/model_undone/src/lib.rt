@@ -23,21 +23,34 @@ use storage_api::Formats;
 
 /// The changes of the set that undoes a commit are the inverse of the commit, in its order.
 pub fn an_undo_changes_the_inverse<F: Formats>(_formats: &F)
-    ensures { (store : Store) (history : List Commit) (handle number : ℕ) (parent : Name) (rec : Record) (keys : KeyMap) → CanUndo (formats_of F.Formats) store history parent keys number → map.entries (undo_set store history handle parent rec keys number).changes ≡ inverse store.start history number }
+    ensures { (store : Store) (history : List Commit) (handle number : ℕ) (parent : Name) (rec : Record) (keys : KeyMap)
+        → CanUndo (formats_of F.Formats) store history parent keys number
+        → map.entries (undo_set store history handle parent rec keys number).changes
+        ≡ inverse store.start history number }
 {}
 
 /// The set that undoes a commit is never refused for a mount that was not fetched, comes to no conflict, and touches
 /// some mount.
 pub fn nothing_stands_in_the_way_of_an_undo<F: Formats>(_formats: &F)
-    ensures fetched { (store : Store) (history : List Commit) (handle number m : ℕ) (parent : Name) (rec : Record) (keys : KeyMap) → CanUndo (formats_of F.Formats) store history parent keys number → IsEarly (formats_of F.Formats) store (undo_set store history handle parent rec keys number) (Some (NotFetched m)) → ⊥ }
-    ensures free { (store : Store) (history : List Commit) (handle number m by : ℕ) (parent : Name) (rec : Record) (keys : KeyMap) → CanUndo (formats_of F.Formats) store history parent keys number → IsLate (formats_of F.Formats) store history (replay store.start history) (undo_set store history handle parent rec keys number) (Conflict m by) → ⊥ }
-    ensures some { (store : Store) (history : List Commit) (handle number aside : ℕ) (parent : Name) (rec : Record) (keys : KeyMap) → CanUndo (formats_of F.Formats) store history parent keys number → IsLate (formats_of F.Formats) store history (replay store.start history) (undo_set store history handle parent rec keys number) (Same aside) → ⊥ }
+    ensures fetched { (store : Store) (history : List Commit) (handle number m : ℕ) (parent : Name) (rec : Record)
+        (keys : KeyMap) → CanUndo (formats_of F.Formats) store history parent keys number
+        → IsEarly (formats_of F.Formats) store (undo_set store history handle parent rec keys number) (Some (NotFetched m))
+        → ⊥ }
+    ensures free { (store : Store) (history : List Commit) (handle number m by : ℕ) (parent : Name) (rec : Record)
+        (keys : KeyMap) → CanUndo (formats_of F.Formats) store history parent keys number
+        → IsLate (formats_of F.Formats) store history (replay store.start history) (undo_set store history handle parent rec keys number) (Conflict m by)
+        → ⊥ }
+    ensures some { (store : Store) (history : List Commit) (handle number aside : ℕ) (parent : Name) (rec : Record)
+        (keys : KeyMap) → CanUndo (formats_of F.Formats) store history parent keys number
+        → IsLate (formats_of F.Formats) store history (replay store.start history) (undo_set store history handle parent rec keys number) (Same aside)
+        → ⊥ }
 {}
 
 /// A commit of a legal history that no later one overtakes can be undone from what a get of its parent gives, whatever
 /// keys the handle has in `proc`.
 pub fn a_get_shows_what_is_to_be_undone<F: Formats>(_formats: &F)
-    ensures { (store : Store) (procs : ℕ → KeyMap) (history : List Commit) (handle number : ℕ) → IsPoints (points_of store)
+    ensures { (store : Store) (procs : ℕ → KeyMap) (history : List Commit) (handle number : ℕ)
+        → IsPoints (points_of store)
         → ((name : Name) (entry : Entry) → map.get (procs handle) name ≡ Some entry → name.namespace ≡ Proc)
         → IsLegal (formats_of F.Formats) store history → IsThere history number
         → CanUndo (formats_of F.Formats) store history (undo_parent store history number) (got (record store { procs = procs }) (replay store.start history) handle (undo_parent store history number)) number }

@@ -49,7 +49,10 @@ use Rattle.key_name.proofs.MeasureLemmas.{length-spelled}
 -- ---- an entry among the keys
 
 -- it is there where it is found among those that were collected
-pub has_entry-found : (entries : List (Part × MountEntry)) (keys : KeyMap) (text : Part) (found : Option (Bor MountEntry)) → T (is_sorted text_cmp entries) → map.from_sorted {R = text_cmp} entries ≡ entries_of keys → option_copied found ≡ find text_cmp text entries → is_some found ≡ has_entry keys text
+pub has_entry-found : (entries : List (Part × MountEntry)) (keys : KeyMap) (text : Part)
+    (found : Option (Bor MountEntry)) → T (is_sorted text_cmp entries)
+    → map.from_sorted {R = text_cmp} entries ≡ entries_of keys → option_copied found ≡ find text_cmp text entries
+    → is_some found ≡ has_entry keys text
 has_entry-found entries keys text found sorted is copied =
     sym (is_some-copied found)
     ∙ ap is_some (copied ∙ sym (map.get-from_sorted text_cmp entries text sorted) ∙ ap (λ m. map.get m text) is ∙ get-entries_of keys text)
@@ -62,10 +65,14 @@ has_entry-found entries keys text found sorted is copied =
 -- a child that is added leaves what others say
 module _ (keys : KeyMap) (text word : Part) (value : List ℕ) where
   says_now : value_at (map.insert keys (child_name text word) (plain_entry value)) (child_name text word) ≡ Some value
-  says_now = ap (option_map (λ e. e.value)) (get-insert_same name_cmp_total keys (child_name text word) (plain_entry value))
+  says_now =
+      ap (option_map (λ e. e.value)) (get-insert_same name_cmp_total keys (child_name text word) (plain_entry value))
 
-  says_still : (other : Part) → (other ≡ word → ⊥) → value_at (map.insert keys (child_name text word) (plain_entry value)) (child_name text other) ≡ value_at keys (child_name text other)
-  says_still other apart = ap (option_map (λ e. e.value)) (get-elsewhere name_cmp_total name_cmp-IsAntisymmetric keys (child_name text word) (plain_entry value) (child_name text other) (λ e. apart (some_is other word (ap (λ name. slice_get name.parts 3) e))))
+  says_still : (other : Part) → (other ≡ word → ⊥)
+      → value_at (map.insert keys (child_name text word) (plain_entry value)) (child_name text other)
+      ≡ value_at keys (child_name text other)
+  says_still other apart =
+      ap (option_map (λ e. e.value)) (get-elsewhere name_cmp_total name_cmp-IsAntisymmetric keys (child_name text word) (plain_entry value) (child_name text other) (λ e. apart (some_is other word (ap (λ name. slice_get name.parts 3) e))))
 
 module _ (keys : KeyMap) (text : Part) (file : List ℕ) (kind : Kind) where
   abbrev one : KeyMap
@@ -96,7 +103,8 @@ module _ (keys : KeyMap) (text : Part) (file : List ℕ) (kind : Kind) where
   says_plugin = says_now one text plugin_word (kind_word kind)
 
   -- what an entry says that is added where there was none
-  said_by-with : (by_key : Bool) → has_entry keys text ≡ false → said_by (with_entry keys text file kind by_key) text ≡ said_added file kind by_key
+  said_by-with : (by_key : Bool) → has_entry keys text ≡ false
+      → said_by (with_entry keys text file kind by_key) text ≡ said_added file kind by_key
   said_by-with true free i = record {
     path = (says_still two text conflicts_word keys_word path_word path_beside ∙ says_path) i;
     plugin = (says_still two text conflicts_word keys_word plugin_word plugin_beside ∙ says_plugin) i;
@@ -114,7 +122,9 @@ module _ (keys : KeyMap) (text : Part) (file : List ℕ) (kind : Kind) where
       ∙ ap (λ es. map.insert es text (said_by two text)) (entries_of-child keys text path_word (plain_entry file))
       ∙ insert-insert nat_list_cmp_total text_cmp-IsAntisymmetric (entries_of keys) text (said_by one text) (said_by two text)
 
-  entries_of-all : (by_key : Bool) → entries_of (with_entry keys text file kind by_key) ≡ map.insert (entries_of keys) text (said_by (with_entry keys text file kind by_key) text)
+  entries_of-all : (by_key : Bool)
+      → entries_of (with_entry keys text file kind by_key)
+      ≡ map.insert (entries_of keys) text (said_by (with_entry keys text file kind by_key) text)
   entries_of-all true =
       let all = with_entry keys text file kind true in
       entries_of-child two text conflicts_word (plain_entry keys_word)
@@ -123,13 +133,18 @@ module _ (keys : KeyMap) (text : Part) (file : List ℕ) (kind : Kind) where
   entries_of-all false = entries_of-file
 
   -- the entries of keys to which one is added
-  pub entries_of-with : (by_key : Bool) → has_entry keys text ≡ false → entries_of (with_entry keys text file kind by_key) ≡ map.insert (entries_of keys) text (said_added file kind by_key)
-  entries_of-with by_key free = entries_of-all by_key ∙ ap (map.insert (entries_of keys) text) (said_by-with by_key free)
+  pub entries_of-with : (by_key : Bool) → has_entry keys text ≡ false
+      → entries_of (with_entry keys text file kind by_key)
+      ≡ map.insert (entries_of keys) text (said_added file kind by_key)
+  entries_of-with by_key free =
+      entries_of-all by_key ∙ ap (map.insert (entries_of keys) text) (said_by-with by_key free)
 
 -- ---- what is looked at before an entry is added
 
-pub added-there : (keys : KeyMap) (text entry : Part) (file : List ℕ) (kind : Kind) (by_key : Bool) → has_entry keys text ≡ true → entry ≡ text → added keys text file kind by_key ≡ Err (AlreadyMounted entry)
-added-there keys text entry file kind by_key there same = cond-true _ _ _ there ∙ ap (λ t. Err (AlreadyMounted t)) (sym same)
+pub added-there : (keys : KeyMap) (text entry : Part) (file : List ℕ) (kind : Kind) (by_key : Bool)
+    → has_entry keys text ≡ true → entry ≡ text → added keys text file kind by_key ≡ Err (AlreadyMounted entry)
+added-there keys text entry file kind by_key there same =
+    cond-true _ _ _ there ∙ ap (λ t. Err (AlreadyMounted t)) (sym same)
 
 module _ (keys : KeyMap) (text : Part) (file : List ℕ) (kind : Kind) (by_key : Bool) (free : has_entry keys text ≡ false) where
   abbrev with : KeyMap
@@ -142,7 +157,10 @@ module _ (keys : KeyMap) (text : Part) (file : List ℕ) (kind : Kind) (by_key :
   added-ok table h = cond-false _ _ _ free ∙ ap (λ r. r >>= (λ _. Ok with)) h
 
   -- the entries that were collected, with the one that is added
-  pub entries-with : (before after : List (Part × MountEntry)) (t : Part) (said : MountEntry) → T (is_sorted text_cmp before) → map.from_sorted {R = text_cmp} before ≡ entries_of keys → t ≡ text → said ≡ said_added file kind by_key → after ≡ put text_cmp t said before → map.from_sorted {R = text_cmp} after ≡ entries_of with
+  pub entries-with : (before after : List (Part × MountEntry)) (t : Part) (said : MountEntry)
+      → T (is_sorted text_cmp before) → map.from_sorted {R = text_cmp} before ≡ entries_of keys → t ≡ text
+      → said ≡ said_added file kind by_key → after ≡ put text_cmp t said before
+      → map.from_sorted {R = text_cmp} after ≡ entries_of with
   entries-with before after t said sorted is same whole more =
       let all = said_added file kind by_key in
       ap map.from_sorted (more ∙ ap₂ (λ u s. put text_cmp u s before) same whole)
@@ -161,15 +179,18 @@ module _ (keys : KeyMap) (text : Part) (file : List ℕ) (kind : Kind) (by_key :
 
 -- ---- names of an entry
 
-pub is_part-refusal : (above : Name) (part : Part) → IsPart part → length (path (child_of above part)) ≤ longest_path → child_refusal above part ≡ None
-is_part-refusal above part is limit = child_refusal-none above part (spelled_well (cases_Bool (is_array_like part))) (position-no_nul part is.no_nul) limit
+pub is_part-refusal : (above : Name) (part : Part) → IsPart part → length (path (child_of above part)) ≤ longest_path
+    → child_refusal above part ≡ None
+is_part-refusal above part is limit =
+    child_refusal-none above part (spelled_well (cases_Bool (is_array_like part))) (position-no_nul part is.no_nul) limit
   where
     spelled_well : (is_array_like part ≡ true) ⊎ (is_array_like part ≡ false) → is_misspelled part ≡ false
     spelled_well (inl like) = ap₂ (λ a c. a && not c) like (is.canonical like)
     spelled_well (inr unlike) = ap (λ a. a && not (is_canonical part)) unlike
 
 -- an entry to which some name belongs has a name
-pub entry-refusal : (text : Part) (name : Name) → IsName name → is_at_or_below (entry_name text) name ≡ true → child_refusal mountpoints text ≡ None
+pub entry-refusal : (text : Part) (name : Name) → IsName name → is_at_or_below (entry_name text) name ≡ true
+    → child_refusal mountpoints text ≡ None
 entry-refusal text name is below =
     let rest = (at_or_below-rest (entry_name text) name below).1 in
     let parts : AllByRecursion IsPart (codes "elektra" ∷ codes "mountpoints" ∷ text ∷ drop 3 name.parts) = subst (AllByRecursion IsPart) rest is.parts in
@@ -190,7 +211,8 @@ not_array at = by at.namespace at.parts
     by Default parts = refl
 
 -- a short mountpoint's entry and its children have names
-pub HasNames-spelling : (at : Name) → Spells (spelling at) at → length (spelling at) ≤ longest_point → HasNames (spelling at)
+pub HasNames-spelling : (at : Name) → Spells (spelling at) at → length (spelling at) ≤ longest_point
+    → HasNames (spelling at)
 HasNames-spelling at spells short =
     let text = spelling at in
     let few : length (spelled text) ≤ 2 * longest_point + 1 = omega (arith, length-spelled text) in

@@ -30,7 +30,8 @@ of_ok {A} x fault e = absurd (ok_no_err {A = A} x fault e)
 of_err : {A : Type 0} (own : TableFault) → IsOfTable own → OfTable {A = A} (Err own)
 of_err {A} own is fault e = subst IsOfTable (err_is {A = A} own fault e) is
 
-of_then : {A B : Type 0} (r : Result A TableFault) (f : A → Result B TableFault) → OfTable r → ((x : A) → OfTable (f x)) → OfTable (r >>= f)
+of_then : {A B : Type 0} (r : Result A TableFault) (f : A → Result B TableFault) → OfTable r → ((x : A) → OfTable (f x))
+    → OfTable (r >>= f)
 of_then (Ok x) f before after fault e = after x fault e
 of_then {A} {B} (Err own) f before after fault e = subst IsOfTable (err_is {A = B} own fault e) (before own refl)
 
@@ -46,7 +47,8 @@ of_mount text said =
     of_then (ok_or (kind_said said.plugin) (UnknownPlugin text)) _ (of_ok_or (kind_said said.plugin) (UnknownPlugin text) tt) (λ kind. of_ok _))))
 
 of_counted : (text : Part) (said : MountEntry) (mount : Mount) → OfTable (counted text said mount)
-of_counted text said mount = of_then (ok_or (counting_said mount.kind said.conflicts) (BadConflicts text)) _ (of_ok_or (counting_said mount.kind said.conflicts) (BadConflicts text) tt) (λ by_key. of_ok _)
+of_counted text said mount =
+    of_then (ok_or (counting_said mount.kind said.conflicts) (BadConflicts text)) _ (of_ok_or (counting_said mount.kind said.conflicts) (BadConflicts text) tt) (λ by_key. of_ok _)
 
 of_next : (taken : List ℕ → Bool) (text : Part) (said : MountEntry) → OfTable (next_mount taken text said)
 of_next taken text said = of_then (mount_of text said) _ (of_mount text said) (λ mount. by (taken mount.file) mount)
@@ -57,7 +59,8 @@ of_next taken text said = of_then (mount_of text said) _ (of_mount text said) (�
 
 of_mounts : (mounts : List Mount) (entries : List (Part × MountEntry)) → OfTable (mounts_from mounts entries)
 of_mounts mounts [] = of_ok mounts
-of_mounts mounts (entry ∷ entries) = of_then (next_mount (is_taken mounts) entry.0 entry.1) _ (of_next (is_taken mounts) entry.0 entry.1) (λ mount. of_mounts (mounts ++ mount ∷ []) entries)
+of_mounts mounts (entry ∷ entries) =
+    of_then (next_mount (is_taken mounts) entry.0 entry.1) _ (of_next (is_taken mounts) entry.0 entry.1) (λ mount. of_mounts (mounts ++ mount ∷ []) entries)
 
 of_limited : (mounts : List Mount) → OfTable (limited mounts)
 of_limited mounts = by (ltb most_mounts (length mounts))
@@ -67,4 +70,5 @@ of_limited mounts = by (ltb most_mounts (length mounts))
     by false = of_ok mounts
 
 pub of_table : (keys : KeyMap) → OfTable (table_of keys)
-of_table keys = of_then (mounts_from (remaining (entries_of keys)) (map.entries (entries_of keys))) _ (of_mounts (remaining (entries_of keys)) (map.entries (entries_of keys))) (λ mounts. of_limited (in_order mounts))
+of_table keys =
+    of_then (mounts_from (remaining (entries_of keys)) (map.entries (entries_of keys))) _ (of_mounts (remaining (entries_of keys)) (map.entries (entries_of keys))) (λ mounts. of_limited (in_order mounts))

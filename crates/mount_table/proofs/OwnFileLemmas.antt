@@ -33,24 +33,29 @@ use Rattle.mount_table.proofs.TableLemmas.{IsMade, IsNext, IsGood, IsTableOf, al
 
 -- two mounts of a table with one file are one
 abbrev HaveOwn : FinMap name_cmp Mount → Type 0
-HaveOwn table = (p q : Name) (a b : Mount) → map.get table p ≡ Some a → map.get table q ≡ Some b → a.file ≡ b.file → p ≡ q
+HaveOwn table =
+    (p q : Name) (a b : Mount) → map.get table p ≡ Some a → map.get table q ≡ Some b → a.file ≡ b.file → p ≡ q
 
 -- ---- one mount more
 
-other_files : (mounts : List Mount) (file : List ℕ) → is_taken mounts file ≡ false → AllByRecursion (λ other. other.file ≢ file) mounts
+other_files : (mounts : List Mount) (file : List ℕ) → is_taken mounts file ≡ false
+    → AllByRecursion (λ other. other.file ≢ file) mounts
 other_files [] file h = tt
 other_files (mount ∷ mounts) file h =
     let parts = or_parts (is_text file mount.file) (is_taken mounts file) h in
     ((λ e. let same : is_text file mount.file ≡ true = (is_text-Decides file mount.file).1 (sym e) in let other = parts.0 in absurd cc), other_files mounts file parts.1)
 
-own_insert : (table : FinMap name_cmp Mount) (mount : Mount) → ((p : Name) (a : Mount) → map.get table p ≡ Some a → a.file ≢ mount.file) → HaveOwn table → HaveOwn (map.insert table mount.at mount)
+own_insert : (table : FinMap name_cmp Mount) (mount : Mount)
+    → ((p : Name) (a : Mount) → map.get table p ≡ Some a → a.file ≢ mount.file) → HaveOwn table
+    → HaveOwn (map.insert table mount.at mount)
 own_insert table mount others own p q a b at_p at_q =
     each-insert name_cmp_total name_cmp-IsAntisymmetric (λ (p : Name) (a : Mount). (q : Name) (b : Mount) → map.get (map.insert table mount.at mount) q ≡ Some b → a.file ≡ b.file → p ≡ q) table mount.at mount
     (λ p a at_p q b at_q. each-insert name_cmp_total name_cmp-IsAntisymmetric (λ (q : Name) (b : Mount). a.file ≡ b.file → p ≡ q) table mount.at mount (λ q b at_q same. own p q a b at_p at_q same) (λ same. absurd (others p a at_p same)) q b at_q)
     (λ q b at_q. each-insert name_cmp_total name_cmp-IsAntisymmetric (λ (q : Name) (b : Mount). mount.file ≡ b.file → mount.at ≡ q) table mount.at mount (λ q b at_q same. absurd (others q b at_q (sym same))) (λ same. refl) q b at_q)
     p a at_p q b at_q
 
-own_push : (entry : Part × MountEntry) (entries : List (Part × MountEntry)) (mounts : List Mount) (mount : Mount) → IsNext mounts entry.0 mount → HaveOwn (by_point mounts) → HaveOwn (by_point (mounts ++ mount ∷ []))
+own_push : (entry : Part × MountEntry) (entries : List (Part × MountEntry)) (mounts : List Mount) (mount : Mount)
+    → IsNext mounts entry.0 mount → HaveOwn (by_point mounts) → HaveOwn (by_point (mounts ++ mount ∷ []))
 own_push entry entries mounts mount next own =
     let others = by_point-each (λ other. other.file ≢ mount.file) mounts (other_files mounts mount.file next.new_file) in
     subst HaveOwn (sym (by_point-snoc mounts mount)) (own_insert (by_point mounts) mount (λ p a found. (others p a found).1) own)
@@ -73,17 +78,20 @@ own_remaining entries p q a b at_p at_q same =
     sym one.0 ∙ one.1 ∙ ap default_at same ∙ sym other.1 ∙ other.0
 
 own_made : (entries : Entries) (all : List Mount) → IsMade entries all → HaveOwn (by_point all)
-own_made entries all is = mounts_from-keeps (λ _ mounts. HaveOwn (by_point mounts)) own_push (remaining entries) (map.entries entries) all is (own_remaining entries)
+own_made entries all is =
+    mounts_from-keeps (λ _ mounts. HaveOwn (by_point mounts)) own_push (remaining entries) (map.entries entries) all is (own_remaining entries)
 
 -- ---- by places
 
-entry_at : (es : List (Name × Mount)) (i : ℕ) (mount : Mount) → slice_get (over (λ e. e.1) es) i ≡ Some mount → (point : Name) × (Some (point, mount) ≡ slice_get es i)
+entry_at : (es : List (Name × Mount)) (i : ℕ) (mount : Mount) → slice_get (over (λ e. e.1) es) i ≡ Some mount
+    → (point : Name) × (Some (point, mount) ≡ slice_get es i)
 entry_at [] i mount there = absurd cc
 entry_at (e ∷ es) zero mount there = (e.0, ap (λ (m : Mount). Some (e.0, m)) (sym (some_is e.1 mount there)))
 entry_at (e ∷ es) (suc i) mount there = entry_at es i mount there
 
 -- a point stands at one place
-pub one_place : (points : List Name) (point : Name) (i j : ℕ) → IsStrictlySortedBy name_cmp points → slice_get points i ≡ Some point → slice_get points j ≡ Some point → i ≡ j
+pub one_place : (points : List Name) (point : Name) (i j : ℕ) → IsStrictlySortedBy name_cmp points
+    → slice_get points i ≡ Some point → slice_get points j ≡ Some point → i ≡ j
 one_place points point i j sorted at_i at_j = by (cases_lt i j) (cases_lt j i)
   where
     apart : (k n : ℕ) → k < n → slice_get points k ≡ Some point → slice_get points n ≡ Some point → ⊥
@@ -99,7 +107,9 @@ one_place points point i j sorted at_i at_j = by (cases_lt i j) (cases_lt j i)
     by (inr le) (inl lt) = absurd (apart j i lt at_j at_i)
     by (inr le) (inr ge) = omega (arith, le, ge)
 
-own_at : (table : FinMap name_cmp Mount) → HaveOwn table → (i j : ℕ) (one other : Mount) → slice_get (map.values table) i ≡ Some one → slice_get (map.values table) j ≡ Some other → one.file ≡ other.file → i ≡ j
+own_at : (table : FinMap name_cmp Mount) → HaveOwn table → (i j : ℕ) (one other : Mount)
+    → slice_get (map.values table) i ≡ Some one → slice_get (map.values table) j ≡ Some other → one.file ≡ other.file
+    → i ≡ j
 own_at table own i j one other there here same =
     let first = entry_at (map.entries table) i one there in
     let second = entry_at (map.entries table) j other here in
@@ -108,8 +118,11 @@ own_at table own i j one other there here same =
     (slice_get-map (λ (e : Name × Mount). e.0) (map.entries table) i ∙ ap (option_map (λ (e : Name × Mount). e.0)) (sym first.1))
     (slice_get-map (λ (e : Name × Mount). e.0) (map.entries table) j ∙ ap (option_map (λ (e : Name × Mount). e.0)) (sym second.1) ∙ ap (λ (p : Name). Some p) (sym alike))
 
-good_at : (table : FinMap name_cmp Mount) → ((point : Name) (mount : Mount) → map.get table point ≡ Some mount → IsGood mount) → (i : ℕ) (mount : Mount) → slice_get (map.values table) i ≡ Some mount → IsGood mount
-good_at table good i mount there = let found = entry_at (map.entries table) i mount there in good found.0 mount (get-at name_cmp_total table i (found.0, mount) found.1)
+good_at : (table : FinMap name_cmp Mount)
+    → ((point : Name) (mount : Mount) → map.get table point ≡ Some mount → IsGood mount) → (i : ℕ) (mount : Mount)
+    → slice_get (map.values table) i ≡ Some mount → IsGood mount
+good_at table good i mount there =
+    let found = entry_at (map.entries table) i mount there in good found.0 mount (get-at name_cmp_total table i (found.0, mount) found.1)
 
 -- ---- the table
 
@@ -117,14 +130,18 @@ module _ (keys : KeyMap) (mounts : List Mount) (ok : table_of keys ≡ Ok mounts
   table : IsTableOf (entries_of keys) mounts
   table = table-is keys mounts ok
 
-  pub own_files : (i j : ℕ) (one other : Mount) → slice_get mounts i ≡ Some one → slice_get mounts j ≡ Some other → one.file ≡ other.file → i ≡ j
-  own_files = subst (λ (ms : List Mount). (i j : ℕ) (one other : Mount) → slice_get ms i ≡ Some one → slice_get ms j ≡ Some other → one.file ≡ other.file → i ≡ j) table.ordered (own_at (by_point table.all) (own_made (entries_of keys) table.all table.made))
+  pub own_files : (i j : ℕ) (one other : Mount) → slice_get mounts i ≡ Some one → slice_get mounts j ≡ Some other
+      → one.file ≡ other.file → i ≡ j
+  own_files =
+      subst (λ (ms : List Mount). (i j : ℕ) (one other : Mount) → slice_get ms i ≡ Some one → slice_get ms j ≡ Some other → one.file ≡ other.file → i ≡ j) table.ordered (own_at (by_point table.all) (own_made (entries_of keys) table.all table.made))
 
   pub good_mounts : (i : ℕ) (mount : Mount) → slice_get mounts i ≡ Some mount → IsGood mount
-  good_mounts = subst (λ (ms : List Mount). (i : ℕ) (mount : Mount) → slice_get ms i ≡ Some mount → IsGood mount) table.ordered
+  good_mounts =
+      subst (λ (ms : List Mount). (i : ℕ) (mount : Mount) → slice_get ms i ≡ Some mount → IsGood mount) table.ordered
       (good_at (by_point table.all) (λ point mount found. (by_point-each IsGood table.all (all_good (entries_of keys) table.all table.made) point mount found).1))
 
-  pub free_files : (i : ℕ) (mount : Mount) → slice_get mounts i ≡ Some mount → starts_with nat_eq mount.file (codes "journal") ≡ false
+  pub free_files : (i : ℕ) (mount : Mount) → slice_get mounts i ≡ Some mount
+      → starts_with nat_eq mount.file (codes "journal") ≡ false
   free_files i mount there = (good_mounts i mount there).free
 
   pub named_files : (i : ℕ) (mount : Mount) → slice_get mounts i ≡ Some mount → IsFileName mount.file

@@ -42,12 +42,15 @@ pub is_some-copied : {X : Type 0} (o : Option (Bor X)) → is_some (option_copie
 is_some-copied None = refl
 is_some-copied (Some x) = refl
 
-pub by_point-more : (mounts : List Mount) (i : ℕ) (mount : Mount) → i < length mounts → mount ≡ get_or mounts i mount → by_point (take (i + 1) mounts) ≡ map.insert (by_point (take i mounts)) mount.at mount
-by_point-more mounts i mount lt is = fold_more _ map.empty mounts i mount lt ∙ ap (λ m. map.insert (by_point (take i mounts)) m.at m) (sym is)
+pub by_point-more : (mounts : List Mount) (i : ℕ) (mount : Mount) → i < length mounts → mount ≡ get_or mounts i mount
+    → by_point (take (i + 1) mounts) ≡ map.insert (by_point (take i mounts)) mount.at mount
+by_point-more mounts i mount lt is =
+    fold_more _ map.empty mounts i mount lt ∙ ap (λ m. map.insert (by_point (take i mounts)) m.at m) (sym is)
 
 -- ---- what is good came from what is good
 
-pub from_then : {A B : Type 0} (r : Result A TableFault) (f : A → Result B TableFault) (y : B) → (r >>= f) ≡ Ok y → (x : A) × (r ≡ Ok x) × (f x ≡ Ok y)
+pub from_then : {A B : Type 0} (r : Result A TableFault) (f : A → Result B TableFault) (y : B) → (r >>= f) ≡ Ok y
+    → (x : A) × (r ≡ Ok x) × (f x ≡ Ok y)
 from_then (Ok x) f y h = (x, refl, h)
 from_then (Err fault) f y h = absurd cc
 
@@ -55,7 +58,8 @@ from_ok_or : {A : Type 0} (o : Option A) (fault : TableFault) (x : A) → ok_or 
 from_ok_or None fault x h = absurd cc
 from_ok_or (Some y) fault x h = some_of y x h
   where
-    some_of : {A : Type 0} (y x : A) → ◌≡◌ {A = Result A TableFault} (Ok y) (Ok x) → ◌≡◌ {A = Option A} (Some y) (Some x)
+    some_of : {A : Type 0} (y x : A) → ◌≡◌ {A = Result A TableFault} (Ok y) (Ok x)
+        → ◌≡◌ {A = Option A} (Some y) (Some x)
     some_of y x e = cc
 
 pub ok_is : {A : Type 0} (x y : A) → ◌≡◌ {A = Result A TableFault} (Ok x) (Ok y) → x ≡ y
@@ -64,7 +68,8 @@ ok_is x y e = cc
 -- ---- the mount of an entry
 
 -- its mountpoint is the entry's text, and some path names its file
-mount_parts : (text : Part) (said : MountEntry) (mount : Mount) → mount_of text said ≡ Ok mount → (point_of text ≡ Some mount.at) × ((path : List ℕ) × (file_of path ≡ Some mount.file))
+mount_parts : (text : Part) (said : MountEntry) (mount : Mount) → mount_of text said ≡ Ok mount
+    → (point_of text ≡ Some mount.at) × ((path : List ℕ) × (file_of path ≡ Some mount.file))
 mount_parts text said mount h =
     let point = from_then (ok_or (point_of text) (BadMountpoint text)) (mount_at text said) mount h in
     let path = from_then (ok_or said.path (NoPath text)) _ mount point.2 in
@@ -81,9 +86,11 @@ record IsCounted (before mount : Mount) : Type 0 where
   file : before.file ≡ mount.file
   may : mount.by_key ≡ true → may_count mount.kind ≡ true
 
-said_may : (kind : Kind) (conflicts : Option (List ℕ)) (by_key : Bool) → counting_said kind conflicts ≡ Some by_key → by_key ≡ true → may_count kind ≡ true
+said_may : (kind : Kind) (conflicts : Option (List ℕ)) (by_key : Bool) → counting_said kind conflicts ≡ Some by_key
+    → by_key ≡ true → may_count kind ≡ true
 said_may kind None by_key said is = absurd (true≢false (sym (some_is false by_key said ∙ is)))
-said_may kind (Some word) by_key said is = by (is_text word keys_word) (may_count kind) (is_text word backend_word) (said ∙ ap (λ b. Some b) is)
+said_may kind (Some word) by_key said is =
+    by (is_text word keys_word) (may_count kind) (is_text word backend_word) (said ∙ ap (λ b. Some b) is)
   where
     by : (a b c : Bool) → cond a (cond b (Some true) None) (cond c (Some false) None) ≡ Some true → b ≡ true
     by true true c e = refl
@@ -91,7 +98,8 @@ said_may kind (Some word) by_key said is = by (is_text word keys_word) (may_coun
     by false b true e = absurd cc
     by false b false e = absurd cc
 
-counted_is : (text : Part) (said : MountEntry) (before mount : Mount) → counted text said before ≡ Ok mount → IsCounted before mount
+counted_is : (text : Part) (said : MountEntry) (before mount : Mount) → counted text said before ≡ Ok mount
+    → IsCounted before mount
 counted_is text said before mount h =
     let by_key = from_then (ok_or (counting_said before.kind said.conflicts) (BadConflicts text)) _ mount h in
     let is : (record before { by_key = by_key.0 }) ≡ mount = ok_is (record before { by_key = by_key.0 }) mount by_key.2 in
@@ -108,17 +116,20 @@ record IsBehind (taken : List ℕ → Bool) (text : Part) (said : MountEntry) (m
   free : taken before.file ≡ false
   counted : IsCounted before mount
 
-next_parts : (taken : List ℕ → Bool) (text : Part) (said : MountEntry) (mount : Mount) → next_mount taken text said ≡ Ok mount → IsBehind taken text said mount
+next_parts : (taken : List ℕ → Bool) (text : Part) (said : MountEntry) (mount : Mount)
+    → next_mount taken text said ≡ Ok mount → IsBehind taken text said mount
 next_parts taken text said mount h =
     let one = from_then (mount_of text said) _ mount h in
     let tested = by (taken one.0.file) (counted text said one.0) one.2 in
     record { before = one.0; of = one.1; free = tested.0; counted = counted_is text said one.0 mount tested.1 }
   where
-    by : (b : Bool) (r : Result Mount TableFault) → cond b (Err (FileTwice text)) r ≡ Ok mount → (b ≡ false) × (r ≡ Ok mount)
+    by : (b : Bool) (r : Result Mount TableFault) → cond b (Err (FileTwice text)) r ≡ Ok mount
+        → (b ≡ false) × (r ≡ Ok mount)
     by true r e = absurd cc
     by false r e = (refl, e)
 
-pub point_of-next : (taken : List ℕ → Bool) (text : Part) (said : MountEntry) (mount : Mount) → next_mount taken text said ≡ Ok mount → point_of text ≡ Some mount.at
+pub point_of-next : (taken : List ℕ → Bool) (text : Part) (said : MountEntry) (mount : Mount)
+    → next_mount taken text said ≡ Ok mount → point_of text ≡ Some mount.at
 point_of-next taken text said mount h =
     let next = next_parts taken text said mount h in
     (mount_parts text said next.before next.of).0 ∙ ap (λ at. Some at) next.counted.at
@@ -153,7 +164,8 @@ pub record IsNext (mounts : List Mount) (text : Part) (mount : Mount) : Type 0 w
   pub good : IsGood mount
   pub new_file : is_taken mounts mount.file ≡ false
 
-next_is : (mounts : List Mount) (text : Part) (said : MountEntry) (mount : Mount) → next_mount (is_taken mounts) text said ≡ Ok mount → IsNext mounts text mount
+next_is : (mounts : List Mount) (text : Part) (said : MountEntry) (mount : Mount)
+    → next_mount (is_taken mounts) text said ≡ Ok mount → IsNext mounts text mount
 next_is mounts text said mount h =
     let next = next_parts (is_taken mounts) text said mount h in
     let parts = mount_parts text said next.before next.of in
@@ -185,29 +197,44 @@ next_is mounts text said mount h =
 
 -- what the mounts so far and the entries that are left have, and each mount of an entry keeps, the mounts of all have
 module _ (P : List (Part × MountEntry) → List Mount → Type 0) (push : (entry : Part × MountEntry) (entries : List (Part × MountEntry)) (mounts : List Mount) (mount : Mount) → IsNext mounts entry.0 mount → P (entry ∷ entries) mounts → P entries (mounts ++ mount ∷ [])) where
-  pub mounts_from-keeps : (mounts : List Mount) (entries : List (Part × MountEntry)) (all : List Mount) → mounts_from mounts entries ≡ Ok all → P entries mounts → P [] all
+  pub mounts_from-keeps : (mounts : List Mount) (entries : List (Part × MountEntry)) (all : List Mount)
+      → mounts_from mounts entries ≡ Ok all → P entries mounts → P [] all
   mounts_from-keeps mounts [] all is h = subst (P []) (ok_is mounts all is) h
   mounts_from-keeps mounts (entry ∷ entries) all is h =
       let next = from_then (next_mount (is_taken mounts) entry.0 entry.1) (λ mount. mounts_from (mounts ++ mount ∷ []) entries) all is in
       mounts_from-keeps (mounts ++ next.0 ∷ []) entries all next.2 (push entry entries mounts next.0 (next_is mounts entry.0 entry.1 next.0 next.1) h)
 
-pub all_filter : {X : Type 0} (P : X → Type 0) (test : X → Bool) (xs : List X) → AllByRecursion P xs → AllByRecursion P (filter test xs)
+pub all_filter : {X : Type 0} (P : X → Type 0) (test : X → Bool) (xs : List X) → AllByRecursion P xs
+    → AllByRecursion P (filter test xs)
 all_filter P test [] h = tt
-all_filter P test (x ∷ xs) h = elim (test x) as (λ b. AllByRecursion P (cond b (x ∷ filter test xs) (filter test xs))) [ true ↦ (h.0, all_filter P test xs h.1) | false ↦ all_filter P test xs h.1 ]
+all_filter P test (x ∷ xs) h =
+    elim (test x) as (λ b. AllByRecursion P (cond b (x ∷ filter test xs) (filter test xs))) [ true ↦ (h.0, all_filter P test xs h.1) | false ↦ all_filter P test xs h.1 ]
 
 -- what each has, it has in another form
-pub all_turned : {X : Type 0} (P Q : X → Type 0) → ((x : X) → P x → Q x) → (xs : List X) → AllByRecursion P xs → AllByRecursion Q xs
+pub all_turned : {X : Type 0} (P Q : X → Type 0) → ((x : X) → P x → Q x) → (xs : List X) → AllByRecursion P xs
+    → AllByRecursion Q xs
 all_turned P Q turn [] h = tt
 all_turned P Q turn (x ∷ xs) h = (turn x h.0, all_turned P Q turn xs h.1)
 
 -- what holds of each default mount holds of those that remain
-pub all_remaining : (P : Mount → Type 0) (entries : Entries) → AllByRecursion P root_mounts → P own_mount → AllByRecursion P (remaining entries)
-all_remaining P entries roots own = all_append P (filter (remains entries) root_mounts) (own_mount ∷ []) (all_filter P (remains entries) root_mounts roots) (own, tt)
+pub all_remaining : (P : Mount → Type 0) (entries : Entries) → AllByRecursion P root_mounts → P own_mount
+    → AllByRecursion P (remaining entries)
+all_remaining P entries roots own =
+    all_append P (filter (remains entries) root_mounts) (own_mount ∷ []) (all_filter P (remains entries) root_mounts roots) (own, tt)
 
-default_good : (mount : Mount) → has_files mount.at.namespace ≡ true → is_file_name mount.file ≡ true → starts_with nat_eq mount.file (codes "journal") ≡ false → mount.by_key ≡ false → IsGood mount
-default_good mount files named free backend = record { files = files; named = named; free = free; may = λ e. absurd (true≢false (sym e ∙ backend)); own = λ _. backend }
+default_good : (mount : Mount) → has_files mount.at.namespace ≡ true → is_file_name mount.file ≡ true
+    → starts_with nat_eq mount.file (codes "journal") ≡ false → mount.by_key ≡ false → IsGood mount
+default_good mount files named free backend =
+    record {
+      files = files;
+      named = named;
+      free = free;
+      may = λ e. absurd (true≢false (sym e ∙ backend));
+      own = λ _. backend;
+    }
 
-good_push : (entry : Part × MountEntry) (entries : List (Part × MountEntry)) (mounts : List Mount) (mount : Mount) → IsNext mounts entry.0 mount → AllByRecursion IsGood mounts → AllByRecursion IsGood (mounts ++ mount ∷ [])
+good_push : (entry : Part × MountEntry) (entries : List (Part × MountEntry)) (mounts : List Mount) (mount : Mount)
+    → IsNext mounts entry.0 mount → AllByRecursion IsGood mounts → AllByRecursion IsGood (mounts ++ mount ∷ [])
 good_push entry entries mounts mount next h = all_append IsGood mounts (mount ∷ []) h (next.good, tt)
 
 -- the mounts that entries make
@@ -215,12 +242,14 @@ abbrev pub IsMade : Entries → List Mount → Type 0
 IsMade entries all = mounts_from (remaining entries) (map.entries entries) ≡ Ok all
 
 pub all_good : (entries : Entries) (all : List Mount) → IsMade entries all → AllByRecursion IsGood all
-all_good entries all is = mounts_from-keeps (λ _ mounts. AllByRecursion IsGood mounts) good_push (remaining entries) (map.entries entries) all is
+all_good entries all is =
+    mounts_from-keeps (λ _ mounts. AllByRecursion IsGood mounts) good_push (remaining entries) (map.entries entries) all is
     (all_remaining IsGood entries (default_good _ refl refl refl refl, (default_good _ refl refl refl refl, (default_good _ refl refl refl refl, (default_good _ refl refl refl refl, tt)))) (default_good _ refl refl refl refl))
 
 -- there is one at least
 some_made : (entries : Entries) (all : List Mount) → IsMade entries all → 1 ≤ length all
-some_made entries all is = mounts_from-keeps (λ _ mounts. 1 ≤ length mounts) (λ entry entries mounts mount next some. omega (arith, some, length-append mounts (mount ∷ []))) (remaining entries) (map.entries entries) all is
+some_made entries all is =
+    mounts_from-keeps (λ _ mounts. 1 ≤ length mounts) (λ entry entries mounts mount next some. omega (arith, some, length-append mounts (mount ∷ []))) (remaining entries) (map.entries entries) all is
     (omega (arith, length-append (filter (remains entries) root_mounts) (own_mount ∷ [])))
 
 -- a text is that of one of some entries
@@ -232,7 +261,8 @@ module _ (Q : List Mount → Type 0) (text : Part) (kept : (mounts : List Mount)
   abbrev Comes : List (Part × MountEntry) → List Mount → Type 0
   Comes entries mounts = Q mounts ⊎ (is_among text entries ≡ true)
 
-  comes_push : (entry : Part × MountEntry) (entries : List (Part × MountEntry)) (mounts : List Mount) (mount : Mount) → IsNext mounts entry.0 mount → Comes (entry ∷ entries) mounts → Comes entries (mounts ++ mount ∷ [])
+  comes_push : (entry : Part × MountEntry) (entries : List (Part × MountEntry)) (mounts : List Mount) (mount : Mount)
+      → IsNext mounts entry.0 mount → Comes (entry ∷ entries) mounts → Comes entries (mounts ++ mount ∷ [])
   comes_push entry entries mounts mount next (inl there) = inl (kept mounts mount there)
   comes_push entry entries mounts mount next (inr left) = elim (cases_Bool (eq_by_cmp text_cmp text entry.0)) [
     | inl same ↦ inl (brought mounts mount (subst (λ t. IsNext mounts t mount) (sym (text_cmp-IsAntisymmetric text entry.0 ((Equal-is (text_cmp text entry.0)).0 same))) next))
@@ -243,7 +273,8 @@ module _ (Q : List Mount → Type 0) (text : Part) (kept : (mounts : List Mount)
   come all (inl there) = there
   come all (inr left) = absurd cc
 
-  pub entry-brings : (entries : Entries) (all : List Mount) → IsMade entries all → Q (remaining entries) ⊎ (map.contains_key entries text ≡ true) → Q all
+  pub entry-brings : (entries : Entries) (all : List Mount) → IsMade entries all
+      → Q (remaining entries) ⊎ (map.contains_key entries text ≡ true) → Q all
   entry-brings entries all is first = come all (mounts_from-keeps Comes comes_push (remaining entries) (map.entries entries) all is (elim first [
     | inl there ↦ inl there
     | inr left ↦ inr (sym (map.contains_key-keys entries text) ∙ left)
@@ -251,42 +282,59 @@ module _ (Q : List Mount → Type 0) (text : Part) (kept : (mounts : List Mount)
 
 -- ---- mounts by their mountpoints
 
-pub by_point-snoc : (mounts : List Mount) (mount : Mount) → by_point (mounts ++ mount ∷ []) ≡ map.insert (by_point mounts) mount.at mount
-by_point-snoc mounts mount = fold-append (λ (table : FinMap name_cmp Mount) (m : Mount). map.insert table m.at m) map.empty mounts (mount ∷ [])
+pub by_point-snoc : (mounts : List Mount) (mount : Mount)
+    → by_point (mounts ++ mount ∷ []) ≡ map.insert (by_point mounts) mount.at mount
+by_point-snoc mounts mount =
+    fold-append (λ (table : FinMap name_cmp Mount) (m : Mount). map.insert table m.at m) map.empty mounts (mount ∷ [])
 
 -- a table, with some mounts more
 abbrev pub with_mounts : FinMap name_cmp Mount → List Mount → FinMap name_cmp Mount
 with_mounts table mounts = fold (λ table mount. map.insert table mount.at mount) table mounts
 
 -- what each mount is stands under its own mountpoint
-each_more : (P : Mount → Type 0) (mounts : List Mount) (table : FinMap name_cmp Mount) → AllByRecursion P mounts → ((point : Name) (mount : Mount) → map.get table point ≡ Some mount → (mount.at ≡ point) × P mount) → (point : Name) (mount : Mount) → map.get (with_mounts table mounts) point ≡ Some mount → (mount.at ≡ point) × P mount
+each_more : (P : Mount → Type 0) (mounts : List Mount) (table : FinMap name_cmp Mount) → AllByRecursion P mounts
+    → ((point : Name) (mount : Mount) → map.get table point ≡ Some mount → (mount.at ≡ point) × P mount)
+    → (point : Name) (mount : Mount) → map.get (with_mounts table mounts) point ≡ Some mount
+    → (mount.at ≡ point) × P mount
 each_more P [] table all each point mount found = each point mount found
 each_more P (one ∷ mounts) table all each point mount found =
     each_more P mounts (map.insert table one.at one) all.1 (λ q x there. each-insert name_cmp_total name_cmp-IsAntisymmetric (λ (q : Name) (x : Mount). (x.at ≡ q) × P x) table one.at one each (refl, all.0) q x there) point mount found
 
-pub by_point-each : (P : Mount → Type 0) (mounts : List Mount) → AllByRecursion P mounts → (point : Name) (mount : Mount) → map.get (by_point mounts) point ≡ Some mount → (mount.at ≡ point) × P mount
-by_point-each P mounts all point mount found = each_more P mounts map.empty all (λ q x there. let none : None ≡ Some x = sym (map.get-empty {X = Mount} name_cmp q) ∙ there in absurd cc) point mount found
+pub by_point-each : (P : Mount → Type 0) (mounts : List Mount) → AllByRecursion P mounts
+    → (point : Name) (mount : Mount) → map.get (by_point mounts) point ≡ Some mount → (mount.at ≡ point) × P mount
+by_point-each P mounts all point mount found =
+    each_more P mounts map.empty all (λ q x there. let none : None ≡ Some x = sym (map.get-empty {X = Mount} name_cmp q) ∙ there in absurd cc) point mount found
 
 -- what was put there is there
-is_there : (point : Name) (table : FinMap name_cmp Mount) (mount : Mount) → (mount.at ≡ point) ⊎ (map.contains_key table point ≡ true) → map.contains_key (map.insert table mount.at mount) point ≡ true
+is_there : (point : Name) (table : FinMap name_cmp Mount) (mount : Mount)
+    → (mount.at ≡ point) ⊎ (map.contains_key table point ≡ true)
+    → map.contains_key (map.insert table mount.at mount) point ≡ true
 is_there point table mount (inl is) =
     ap is_some (map.get-insert name_cmp_total table mount.at mount point ∙ cond-true (eq_by_cmp name_cmp point mount.at) (Some mount) (map.get table point) ((Equal-is (name_cmp point mount.at)).1 (ap (name_cmp point) is ∙ tied_itself name_cmp_total point)))
-is_there point table mount (inr there) = ap is_some (map.get-insert name_cmp_total table mount.at mount point) ∙ by (eq_by_cmp name_cmp point mount.at)
+is_there point table mount (inr there) =
+    ap is_some (map.get-insert name_cmp_total table mount.at mount point) ∙ by (eq_by_cmp name_cmp point mount.at)
   where
     by : (b : Bool) → is_some (cond b (Some mount) (map.get table point)) ≡ true
     by true = refl
     by false = there
 
-pub there-snoc : (point : Name) (mounts : List Mount) (mount : Mount) → (mount.at ≡ point) ⊎ (map.contains_key (by_point mounts) point ≡ true) → map.contains_key (by_point (mounts ++ mount ∷ [])) point ≡ true
-there-snoc point mounts mount h = ap (λ table. map.contains_key table point) (by_point-snoc mounts mount) ∙ is_there point (by_point mounts) mount h
+pub there-snoc : (point : Name) (mounts : List Mount) (mount : Mount)
+    → (mount.at ≡ point) ⊎ (map.contains_key (by_point mounts) point ≡ true)
+    → map.contains_key (by_point (mounts ++ mount ∷ [])) point ≡ true
+there-snoc point mounts mount h =
+    ap (λ table. map.contains_key table point) (by_point-snoc mounts mount) ∙ is_there point (by_point mounts) mount h
 
-still_there : (point : Name) (mounts : List Mount) (table : FinMap name_cmp Mount) → map.contains_key table point ≡ true → map.contains_key (with_mounts table mounts) point ≡ true
+still_there : (point : Name) (mounts : List Mount) (table : FinMap name_cmp Mount) → map.contains_key table point ≡ true
+    → map.contains_key (with_mounts table mounts) point ≡ true
 still_there point [] table there = there
-still_there point (mount ∷ mounts) table there = still_there point mounts (map.insert table mount.at mount) (is_there point table mount (inr there))
+still_there point (mount ∷ mounts) table there =
+    still_there point mounts (map.insert table mount.at mount) (is_there point table mount (inr there))
 
-pub all_there : (mounts : List Mount) (table : FinMap name_cmp Mount) → AllByRecursion (λ mount. map.contains_key (with_mounts table mounts) mount.at ≡ true) mounts
+pub all_there : (mounts : List Mount) (table : FinMap name_cmp Mount)
+    → AllByRecursion (λ mount. map.contains_key (with_mounts table mounts) mount.at ≡ true) mounts
 all_there [] table = tt
-all_there (mount ∷ mounts) table = (still_there mount.at mounts (map.insert table mount.at mount) (is_there mount.at table mount (inl refl)), all_there mounts (map.insert table mount.at mount))
+all_there (mount ∷ mounts) table =
+    (still_there mount.at mounts (map.insert table mount.at mount) (is_there mount.at table mount (inl refl)), all_there mounts (map.insert table mount.at mount))
 
 some_among : {A : Type 0} (p : A → Bool) (xs : List A) → list_any p xs ≡ true → 1 ≤ length xs
 some_among p [] there = absurd cc
@@ -305,16 +353,21 @@ some_by_point (mount ∷ mounts) some =
 abbrev pub IsKeyed : Name × Mount → Type 0
 IsKeyed entry = (entry.1.at ≡ entry.0) × IsGood entry.1
 
-pub all_keyed : (mounts : List Mount) → AllByRecursion IsGood mounts → AllByRecursion IsKeyed (map.entries (by_point mounts))
-all_keyed mounts good = all_from_places IsKeyed (map.entries (by_point mounts)) (λ i e there. by_point-each IsGood mounts good e.0 e.1 (get-at name_cmp_total (by_point mounts) i e there))
+pub all_keyed : (mounts : List Mount) → AllByRecursion IsGood mounts
+    → AllByRecursion IsKeyed (map.entries (by_point mounts))
+all_keyed mounts good =
+    all_from_places IsKeyed (map.entries (by_point mounts)) (λ i e there. by_point-each IsGood mounts good e.0 e.1 (get-at name_cmp_total (by_point mounts) i e there))
 
-pub points-keyed : (es : List (Name × Mount)) → AllByRecursion IsKeyed es → over (λ m. m.at) (over (λ e. e.1) es) ≡ over (λ e. e.0) es
+pub points-keyed : (es : List (Name × Mount)) → AllByRecursion IsKeyed es
+    → over (λ m. m.at) (over (λ e. e.1) es) ≡ over (λ e. e.0) es
 points-keyed [] h = refl
 points-keyed (e ∷ es) h = λ i. h.0.0 i ∷ points-keyed es h.1 i
 
-files-keyed : (es : List (Name × Mount)) → AllByRecursion IsKeyed es → list_all (λ (point : Name). has_files point.namespace) (over (λ e. e.0) es) ≡ true
+files-keyed : (es : List (Name × Mount)) → AllByRecursion IsKeyed es
+    → list_all (λ (point : Name). has_files point.namespace) (over (λ e. e.0) es) ≡ true
 files-keyed [] h = refl
-files-keyed (e ∷ es) h = and_from _ _ (subst (λ point. has_files point.namespace ≡ true) h.0.0 h.0.1.files) (files-keyed es h.1)
+files-keyed (e ∷ es) h =
+    and_from _ _ (subst (λ point. has_files point.namespace ≡ true) h.0.0 h.0.1.files) (files-keyed es h.1)
 
 -- ---- the table of some keys
 
@@ -331,17 +384,24 @@ table-is keys mounts ok =
     let is = by (in_order read.0) (ltb most_mounts (length (in_order read.0))) refl read.2 in
     record { all = read.0; made = read.1; ordered = is.0; few = is.1 }
   where
-    by : (all : List Mount) (b : Bool) → ltb most_mounts (length all) ≡ b → ◌≡◌ {A = Result (List Mount) TableFault} (cond b (Err (TooMany (length all))) (Ok all)) (Ok mounts) → (all ≡ mounts) × (length mounts ≤ most_mounts)
+    by : (all : List Mount) (b : Bool) → ltb most_mounts (length all) ≡ b
+        → ◌≡◌ {A = Result (List Mount) TableFault} (cond b (Err (TooMany (length all))) (Ok all)) (Ok mounts)
+        → (all ≡ mounts) × (length mounts ≤ most_mounts)
     by all true is e = absurd cc
-    by all false is e = (ok_is all mounts e, subst (λ (ms : List Mount). length ms ≤ most_mounts) (ok_is all mounts e) (ltb-false most_mounts (length all) is))
+    by all false is e =
+        (ok_is all mounts e, subst (λ (ms : List Mount). length ms ≤ most_mounts) (ok_is all mounts e) (ltb-false most_mounts (length all) is))
 
 -- ---- the table of some entries
 
 module _ (entries : List (Part × MountEntry)) (entries_sorted : T (is_sorted text_cmp entries)) (before : List Mount) (remain : before ≡ remaining (map.from_sorted {R = text_cmp} entries)) where
-  reads : mounts_from (remaining (map.from_sorted {R = text_cmp} entries)) (map.entries (map.from_sorted {R = text_cmp} entries)) ≡ mounts_from before entries
-  reads = ap (mounts_from (remaining (map.from_sorted entries))) (map.entries-from_sorted text_cmp entries entries_sorted) ∙ ap (λ ms. mounts_from ms entries) (sym remain)
+  reads : mounts_from (remaining (map.from_sorted {R = text_cmp} entries)) (map.entries (map.from_sorted {R = text_cmp} entries))
+      ≡ mounts_from before entries
+  reads =
+      ap (mounts_from (remaining (map.from_sorted entries))) (map.entries-from_sorted text_cmp entries entries_sorted)
+      ∙ ap (λ ms. mounts_from ms entries) (sym remain)
 
-  pub table_from-err : (fault : TableFault) → mounts_from before entries ≡ Err fault → table_from (map.from_sorted {R = text_cmp} entries) ≡ Err fault
+  pub table_from-err : (fault : TableFault) → mounts_from before entries ≡ Err fault
+      → table_from (map.from_sorted {R = text_cmp} entries) ≡ Err fault
   table_from-err fault h = ap (λ r. r >>= (λ mounts. limited (in_order mounts))) (reads ∙ h)
 
   module _ (all : List Mount) (ok : mounts_from before entries ≡ Ok all) (table : List (Name × Mount)) (table_sorted : T (is_sorted name_cmp table)) (is : map.from_sorted {R = name_cmp} table ≡ by_point all) where
@@ -349,15 +409,19 @@ module _ (entries : List (Part × MountEntry)) (entries_sorted : T (is_sorted te
     table_entries = ap map.entries (sym is) ∙ map.entries-from_sorted name_cmp table table_sorted
 
     pub table_from-limited : table_from (map.from_sorted {R = text_cmp} entries) ≡ limited (over (λ e. e.1) table)
-    table_from-limited = ap (λ r. r >>= (λ mounts. limited (in_order mounts))) (reads ∙ ok) ∙ ap (λ es. limited (over (λ e. e.1) es)) table_entries
+    table_from-limited =
+        ap (λ r. r >>= (λ mounts. limited (in_order mounts))) (reads ∙ ok)
+        ∙ ap (λ es. limited (over (λ e. e.1) es)) table_entries
 
-    pub table_from-long : most_mounts < length table → table_from (map.from_sorted {R = text_cmp} entries) ≡ Err (TooMany (length table))
+    pub table_from-long : most_mounts < length table
+        → table_from (map.from_sorted {R = text_cmp} entries) ≡ Err (TooMany (length table))
     table_from-long long =
         table_from-limited
         ∙ cond-true (ltb most_mounts (length (over (λ e. e.1) table))) _ _ (lt-ltb _ _ (subst (λ n. most_mounts < n) (sym (length-map table (λ e. e.1))) long))
         ∙ ap (λ n. Err (TooMany n)) (length-map table (λ e. e.1))
 
-    pub table_from-ok : length table ≤ most_mounts → table_from (map.from_sorted {R = text_cmp} entries) ≡ Ok (over (λ e. e.1) table)
+    pub table_from-ok : length table ≤ most_mounts
+        → table_from (map.from_sorted {R = text_cmp} entries) ≡ Ok (over (λ e. e.1) table)
     table_from-ok short =
         table_from-limited
         ∙ cond-false (ltb most_mounts (length (over (λ e. e.1) table))) _ _ (le-ltb _ _ (subst (λ n. n ≤ most_mounts) (sym (length-map table (λ e. e.1))) short))

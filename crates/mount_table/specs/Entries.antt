@@ -34,7 +34,8 @@ said_by keys text = record {
 
 -- the entries: each distinct part directly below the mountpoints, with what it says
 abbrev pub entries_of : KeyMap → Entries
-entries_of keys = map.from_entries (filter_map (λ key. option_map (λ text. (text, said_by keys text)) (text_of_entry key.0)) (map.entries keys))
+entries_of keys =
+    map.from_entries (filter_map (λ key. option_map (λ text. (text, said_by keys text)) (text_of_entry key.0)) (map.entries keys))
 
 -- the entry of a text is there: some key is it or stands below it
 abbrev pub has_entry : KeyMap → Part → Bool

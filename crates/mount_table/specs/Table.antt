@@ -20,11 +20,13 @@ use Rattle.mount_table.specs.declared.mounts.Mount.{Mount}
 
 -- the mount of a whole namespace
 abbrev pub root_mount : Namespace → List ℕ → Mount
-root_mount namespace file = record { at = record { namespace = namespace; parts = [] }; file = file; kind = Dump; by_key = false }
+root_mount namespace file =
+    record { at = record { namespace = namespace; parts = [] }; file = file; kind = Dump; by_key = false }
 
 -- the default mounts of whole namespaces
 abbrev pub root_mounts : List Mount
-root_mounts = root_mount Spec (codes "spec.ecf") ∷ root_mount Dir (codes "dir.ecf") ∷ root_mount User (codes "user.ecf") ∷ root_mount System (codes "system.ecf") ∷ []
+root_mounts =
+    root_mount Spec (codes "spec.ecf") ∷ root_mount Dir (codes "dir.ecf") ∷ root_mount User (codes "user.ecf") ∷ root_mount System (codes "system.ecf") ∷ []
 
 -- the mount of the table's own keys, which always stays
 abbrev pub own_mount : Mount

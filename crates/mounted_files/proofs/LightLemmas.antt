@@ -43,7 +43,8 @@ weighs key = weight_of_key key.0 key.1
 
 -- ---- keys that are set, one after the other, add their weights at most
 
-placed : (new e : Name × Entry) (es puts : List (Name × Entry)) (o : Ordering) → (o ≡ Equal → e.0 ≡ new.0) → sum_by weighs puts ≤ sum_by weighs es + weighs new
+placed : (new e : Name × Entry) (es puts : List (Name × Entry)) (o : Ordering) → (o ≡ Equal → e.0 ≡ new.0)
+    → sum_by weighs puts ≤ sum_by weighs es + weighs new
     → sum_by weighs (by_order o (new ∷ e ∷ es) ((e.0, new.1) ∷ es) (e ∷ puts)) ≤ sum_by weighs (e ∷ es) + weighs new
 placed new e es puts Less tied more = omega (arith, sum_by-cons weighs new (e ∷ es))
 placed new e es puts Equal tied more =
@@ -51,16 +52,22 @@ placed new e es puts Equal tied more =
     omega (arith, sum_by-cons weighs (e.0, new.1) es, sum_by-cons weighs e es, same)
 placed new e es puts Greater tied more = omega (arith, sum_by-cons weighs e puts, sum_by-cons weighs e es, more)
 
-put-weight : (name : Name) (entry : Entry) (es : List (Name × Entry)) → sum_by weighs (put name_cmp name entry es) ≤ sum_by weighs es + weighs (name, entry)
+put-weight : (name : Name) (entry : Entry) (es : List (Name × Entry))
+    → sum_by weighs (put name_cmp name entry es) ≤ sum_by weighs es + weighs (name, entry)
 put-weight name entry [] = omega (arith, sum_by-cons weighs (name, entry) [])
-put-weight name entry (e ∷ es) = placed (name, entry) e es (put name_cmp name entry es) (name_cmp name e.0) (λ tied. sym (name_cmp-IsAntisymmetric name e.0 tied)) (put-weight name entry es)
+put-weight name entry (e ∷ es) =
+    placed (name, entry) e es (put name_cmp name entry es) (name_cmp name e.0) (λ tied. sym (name_cmp-IsAntisymmetric name e.0 tied)) (put-weight name entry es)
 
-insert-weight : (keys : KeyMap) (name : Name) (entry : Entry) → weight (map.insert keys name entry) ≤ weight keys + weighs (name, entry)
-insert-weight keys name entry = subst (λ (es : List (Name × Entry)). sum_by weighs es ≤ weight keys + weighs (name, entry)) (sym (map.entries-insert name_cmp_total keys name entry)) (put-weight name entry (map.entries keys))
+insert-weight : (keys : KeyMap) (name : Name) (entry : Entry)
+    → weight (map.insert keys name entry) ≤ weight keys + weighs (name, entry)
+insert-weight keys name entry =
+    subst (λ (es : List (Name × Entry)). sum_by weighs es ≤ weight keys + weighs (name, entry)) (sym (map.entries-insert name_cmp_total keys name entry)) (put-weight name entry (map.entries keys))
 
-with_keys-weight : (es : List (Name × Entry)) (keys : KeyMap) → weight (with_keys es keys) ≤ sum_by weighs es + weight keys
+with_keys-weight : (es : List (Name × Entry)) (keys : KeyMap)
+    → weight (with_keys es keys) ≤ sum_by weighs es + weight keys
 with_keys-weight [] keys = omega arith
-with_keys-weight (e ∷ es) keys = omega (arith, with_keys-weight es (map.insert keys e.0 e.1), insert-weight keys e.0 e.1, sum_by-cons weighs e es)
+with_keys-weight (e ∷ es) keys =
+    omega (arith, with_keys-weight es (map.insert keys e.0 e.1), insert-weight keys e.0 e.1, sum_by-cons weighs e es)
 
 no_weight : weight no_keys ≡ 0
 no_weight = ap (sum_by weighs) (entries-empty name_cmp Entry)
@@ -74,7 +81,8 @@ visible_of-weight : (state : FileState) → weight (visible_of state) ≡ visibl
 visible_of-weight (Good visible shadow) = refl
 visible_of-weight (Bad cause) = no_weight
 
-fold-weight : (files : List MountedFile) (keys : KeyMap) → weight (fold (λ (all : KeyMap) (file : MountedFile). with_all (visible_of file.state) all) keys files) ≤ sum_by file_weight files + weight keys
+fold-weight : (files : List MountedFile) (keys : KeyMap)
+    → weight (fold (λ (all : KeyMap) (file : MountedFile). with_all (visible_of file.state) all) keys files) ≤ sum_by file_weight files + weight keys
 fold-weight [] keys = omega arith
 fold-weight (file ∷ files) keys =
     omega (
@@ -89,28 +97,34 @@ visible_of-short : (state : FileState) → HasShortTexts state → AreShort (vis
 visible_of-short (Good visible shadow) short = short.0
 visible_of-short (Bad cause) short = each-none _
 
-fold-short : (files : List MountedFile) (keys : KeyMap) → HaveShortTexts files → AreShort keys → AreShort (fold (λ (all : KeyMap) (file : MountedFile). with_all (visible_of file.state) all) keys files)
+fold-short : (files : List MountedFile) (keys : KeyMap) → HaveShortTexts files → AreShort keys
+    → AreShort (fold (λ (all : KeyMap) (file : MountedFile). with_all (visible_of file.state) all) keys files)
 fold-short [] keys all short = short
-fold-short (file ∷ files) keys all short = fold-short files (with_all (visible_of file.state) keys) all.1 (short-with_all (visible_of file.state) keys (visible_of-short file.state all.0) short)
+fold-short (file ∷ files) keys all short =
+    fold-short files (with_all (visible_of file.state) keys) all.1 (short-with_all (visible_of file.state) keys (visible_of-short file.state all.0) short)
 
 -- the visible keys of some files are light and short where the files are
-pub visible-light : (files : List MountedFile) → sum_by (λ file. visible_weight file.state) files ≤ heaviest_map → weight (visible_keys files) ≤ heaviest_map
+pub visible-light : (files : List MountedFile) → sum_by (λ file. visible_weight file.state) files ≤ heaviest_map
+    → weight (visible_keys files) ≤ heaviest_map
 visible-light files light = omega (arith, light, fold-weight files no_keys, no_weight)
 
 pub visible-short : (files : List MountedFile) → HaveShortTexts files → AreShort (visible_keys files)
 visible-short files short = fold-short files no_keys short (each-none _)
 
 -- keys that pass a test weigh no more than all
-passing-weight : (p : Name → Bool) (es : List (Name × Entry)) → sum_by weighs (where_key name_cmp p es) ≤ sum_by weighs es
+passing-weight : (p : Name → Bool) (es : List (Name × Entry))
+    → sum_by weighs (where_key name_cmp p es) ≤ sum_by weighs es
 passing-weight p [] = omega arith
 passing-weight p (e ∷ es) = by (p e.0) (passing-weight p es)
   where
-    by : (b : Bool) → sum_by weighs (where_key name_cmp p es) ≤ sum_by weighs es → sum_by weighs (cond b (e ∷ where_key name_cmp p es) (where_key name_cmp p es)) ≤ sum_by weighs (e ∷ es)
+    by : (b : Bool) → sum_by weighs (where_key name_cmp p es) ≤ sum_by weighs es
+        → sum_by weighs (cond b (e ∷ where_key name_cmp p es) (where_key name_cmp p es)) ≤ sum_by weighs (e ∷ es)
     by true rest = omega (arith, rest, sum_by-cons weighs e es, sum_by-cons weighs e (where_key name_cmp p es))
     by false rest = omega (arith, rest, sum_by-cons weighs e es)
 
 pub kept-weight : (keys : KeyMap) (p : Name → Bool) → weight (map.retain_keys keys p) ≤ weight keys
-kept-weight keys p = subst (λ (es : List (Name × Entry)). sum_by weighs es ≤ weight keys) (sym (entries-retain name_cmp_total name_cmp-IsAntisymmetric keys p)) (passing-weight p (map.entries keys))
+kept-weight keys p =
+    subst (λ (es : List (Name × Entry)). sum_by weighs es ≤ weight keys) (sym (entries-retain name_cmp_total name_cmp-IsAntisymmetric keys p)) (passing-weight p (map.entries keys))
 
 -- ---- a name that leads to a key is no longer than the key's
 
@@ -120,9 +134,12 @@ slashed part = 47 ∷ spelled part
 drop-length : (n : ℕ) (parts : List Part) → length (flat_map slashed (drop n parts)) ≤ length (flat_map slashed parts)
 drop-length zero parts = omega arith
 drop-length (suc n) [] = omega arith
-drop-length (suc n) (part ∷ parts) = omega (arith, drop-length n parts, length-append (slashed part) (flat_map slashed parts))
+drop-length (suc n) (part ∷ parts) =
+    omega (arith, drop-length n parts, length-append (slashed part) (flat_map slashed parts))
 
-path-flat : (parts : List Part) → (length (path_of_parts parts) ≡ length (flat_map slashed parts)) ⊎ ((parts ≡ []) × (length (path_of_parts parts) ≡ 1))
+path-flat : (parts : List Part)
+    → (length (path_of_parts parts) ≡ length (flat_map slashed parts))
+    ⊎ ((parts ≡ []) × (length (path_of_parts parts) ≡ 1))
 path-flat [] = inr (refl, refl)
 path-flat (part ∷ parts) = inl refl
 
@@ -137,48 +154,63 @@ flat-path (part ∷ parts) = omega arith
 path-drop : (n : ℕ) (parts : List Part) → length (path_of_parts (drop n parts)) ≤ length (path_of_parts parts)
 path-drop n parts = by (path-flat (drop n parts))
   where
-    by : (length (path_of_parts (drop n parts)) ≡ length (flat_map slashed (drop n parts))) ⊎ ((drop n parts ≡ []) × (length (path_of_parts (drop n parts)) ≡ 1)) → length (path_of_parts (drop n parts)) ≤ length (path_of_parts parts)
+    by : (length (path_of_parts (drop n parts)) ≡ length (flat_map slashed (drop n parts)))
+        ⊎ ((drop n parts ≡ []) × (length (path_of_parts (drop n parts)) ≡ 1))
+        → length (path_of_parts (drop n parts)) ≤ length (path_of_parts parts)
     by (inl flat) = omega (arith, flat, drop-length n parts, flat-path parts)
     by (inr none) = omega (arith, none.1, one_slash parts)
 
-way-weight : (point : Name) (key : Name × Entry) (rest : List (Name × Entry)) → sum_by weighs (cons_option (as_way point key) rest) ≤ weighs key + sum_by weighs rest
+way-weight : (point : Name) (key : Name × Entry) (rest : List (Name × Entry))
+    → sum_by weighs (cons_option (as_way point key) rest) ≤ weighs key + sum_by weighs rest
 way-weight point key rest = by (is_at_or_below point key.0)
   where
     way : Name
     way = record { namespace = Cascading; parts = drop (length point.parts) key.0.parts }
 
     shorter : length (spelling way) ≤ length (spelling key.0)
-    shorter = omega (arith, path-drop (length point.parts) key.0.parts, length-append (word_of key.0.namespace) (path_of_parts key.0.parts))
+    shorter =
+        omega (arith, path-drop (length point.parts) key.0.parts, length-append (word_of key.0.namespace) (path_of_parts key.0.parts))
 
-    by : (b : Bool) → sum_by weighs (cons_option (option_map {U = Name × Entry} (λ w. (w, key.1)) (cond b (Some way) None)) rest) ≤ weighs key + sum_by weighs rest
+    by : (b : Bool)
+        → sum_by weighs (cons_option (option_map {U = Name × Entry} (λ w. (w, key.1)) (cond b (Some way) None)) rest) ≤ weighs key + sum_by weighs rest
     by true = omega (arith, shorter, sum_by-cons weighs (way, key.1) rest)
     by false = omega arith
 
-ways-weight : (point : Name) (es : List (Name × Entry)) → sum_by weighs (filter_map (as_way point) es) ≤ sum_by weighs es
+ways-weight : (point : Name) (es : List (Name × Entry))
+    → sum_by weighs (filter_map (as_way point) es) ≤ sum_by weighs es
 ways-weight point [] = omega arith
-ways-weight point (e ∷ es) = omega (arith, ways-weight point es, way-weight point e (filter_map (as_way point) es), sum_by-cons weighs e es)
+ways-weight point (e ∷ es) =
+    omega (arith, ways-weight point es, way-weight point e (filter_map (as_way point) es), sum_by-cons weighs e es)
 
 pub relative-weight : (point : Name) (keys : KeyMap) → weight (relative point keys) ≤ weight keys
-relative-weight point keys = omega (arith, with_keys-weight (filter_map (as_way point) (map.entries keys)) no_keys, ways-weight point (map.entries keys), no_weight)
+relative-weight point keys =
+    omega (arith, with_keys-weight (filter_map (as_way point) (map.entries keys)) no_keys, ways-weight point (map.entries keys), no_weight)
 
 -- what is at or below a name, of keys that are short and light, is within the limits of a file
-pub limited-below : (name : Name) (keys : KeyMap) → AreShort keys → weight keys ≤ heaviest_map → AreSound name (relative name keys) → IsLimited (relative name keys)
-limited-below name keys short light sound = limited-from name (relative name keys) sound (short-relative name keys short) (omega (arith, relative-weight name keys, light))
+pub limited-below : (name : Name) (keys : KeyMap) → AreShort keys → weight keys ≤ heaviest_map
+    → AreSound name (relative name keys) → IsLimited (relative name keys)
+limited-below name keys short light sound =
+    limited-from name (relative name keys) sound (short-relative name keys short) (omega (arith, relative-weight name keys, light))
 
 -- ---- the files of an opening weigh what it has counted
 
-own_free : (files : List MountedFile) → ((i : ℕ) (file : MountedFile) → slice_get files i ≡ Some file → is_own file ≡ false) → sum_by added_weight files ≡ sum_by file_weight files
+own_free : (files : List MountedFile)
+    → ((i : ℕ) (file : MountedFile) → slice_get files i ≡ Some file → is_own file ≡ false)
+    → sum_by added_weight files ≡ sum_by file_weight files
 own_free [] none = refl
 own_free (file ∷ files) none =
     let here : added_weight file ≡ file_weight file = ap (λ b. cond b 0 (file_weight file)) (none zero file refl) in
     let rest = own_free files (λ i other there. none (suc i) other there) in
     omega (arith, here, rest, sum_by-cons added_weight file files, sum_by-cons file_weight file files)
 
-none_own : (table : List Mount) (place : ℕ) (files : List MountedFile) → IsStrictlySortedBy name_cmp (over (λ (mount : Mount). mount.at) table) → slice_get table place ≡ Some own_mount → over (λ (file : MountedFile). file.mount) files ≡ remove table place
+none_own : (table : List Mount) (place : ℕ) (files : List MountedFile)
+    → IsStrictlySortedBy name_cmp (over (λ (mount : Mount). mount.at) table) → slice_get table place ≡ Some own_mount
+    → over (λ (file : MountedFile). file.mount) files ≡ remove table place
     → (i : ℕ) (file : MountedFile) → slice_get files i ≡ Some file → is_own file ≡ false
 none_own table place files sorted own_there mounts i file there = by (is_own file) refl
   where
-    point_at : (n : ℕ) (mount : Mount) → slice_get table n ≡ Some mount → slice_get (over (λ (m : Mount). m.at) table) n ≡ Some mount.at
+    point_at : (n : ℕ) (mount : Mount) → slice_get table n ≡ Some mount
+        → slice_get (over (λ (m : Mount). m.at) table) n ≡ Some mount.at
     point_at n mount found = slice_get-map (λ (m : Mount). m.at) table n ∙ ap (option_map (λ (m : Mount). m.at)) found
 
     mount_there : slice_get table (number_of place i) ≡ Some file.mount
@@ -193,11 +225,15 @@ none_own table place files sorted own_there mounts i file there = by (is_own fil
         let at = point_at (number_of place i) file.mount mount_there ∙ ap Some point in
         absurd (number_of-other place i (one_place (over (λ (m : Mount). m.at) table) own_point (number_of place i) place sorted at (point_at place own_mount own_there)))
 
-insert-sum : (files : List MountedFile) (place : ℕ) (file : MountedFile) → sum_by file_weight (insert files place file) ≡ file_weight file + sum_by file_weight files
+insert-sum : (files : List MountedFile) (place : ℕ) (file : MountedFile)
+    → sum_by file_weight (insert files place file) ≡ file_weight file + sum_by file_weight files
 insert-sum files place file =
     omega (arith, sum_by-append file_weight (take place files) (file ∷ drop place files), sum_by-cons file_weight file (drop place files), sum_by-take-drop file_weight files place)
 
-pub all-light : (table : List Mount) (place sum : ℕ) (own : FileState) (files : List MountedFile) → IsStrictlySortedBy name_cmp (over (λ (mount : Mount). mount.at) table) → slice_get table place ≡ Some own_mount → over (λ (file : MountedFile). file.mount) files ≡ remove table place
-    → sum ≡ visible_weight own + sum_by added_weight files → sum ≤ heaviest_map → sum_by (λ file. visible_weight file.state) (insert files place (record { mount = own_mount; state = own })) ≤ heaviest_map
+pub all-light : (table : List Mount) (place sum : ℕ) (own : FileState) (files : List MountedFile)
+    → IsStrictlySortedBy name_cmp (over (λ (mount : Mount). mount.at) table) → slice_get table place ≡ Some own_mount
+    → over (λ (file : MountedFile). file.mount) files ≡ remove table place
+    → sum ≡ visible_weight own + sum_by added_weight files → sum ≤ heaviest_map
+    → sum_by (λ file. visible_weight file.state) (insert files place (record { mount = own_mount; state = own })) ≤ heaviest_map
 all-light table place sum own files sorted own_there mounts sum_is limit =
     omega (arith, insert-sum files place (record { mount = own_mount; state = own }), own_free files (none_own table place files sorted own_there mounts), sum_is, limit)

@@ -29,10 +29,13 @@ not_long text e = ltb-false longest_value (length text) (by (nat_lt longest_valu
     by false h = refl
 
 is_short : (text : List ℕ) → length text ≤ longest_value → if_long text ≡ None
-is_short text le = cond-false (nat_lt longest_value (length text)) (Some (length text)) None (le-ltb longest_value (length text) le)
+is_short text le =
+    cond-false (nat_lt longest_value (length text)) (Some (length text)) None (le-ltb longest_value (length text) le)
 
 -- what is found among short texts is short
-short-find : (items : List (List ℕ × List ℕ)) (name text : List ℕ) → first_some if_long (over (λ item. item.1) items) ≡ None → find text_cmp name items ≡ Some text → length text ≤ longest_value
+short-find : (items : List (List ℕ × List ℕ)) (name text : List ℕ)
+    → first_some if_long (over (λ item. item.1) items) ≡ None → find text_cmp name items ≡ Some text
+    → length text ≤ longest_value
 short-find [] name text short found = absurd cc
 short-find (item ∷ items) name text short found =
     elim (eq_by_cmp text_cmp name item.0) as (λ b. cond b (Some item.1) (find text_cmp name items) ≡ Some text → length text ≤ longest_value) [
@@ -41,9 +44,12 @@ short-find (item ∷ items) name text short found =
     ] found
 
 -- short texts are not long
-short-all : (items : List (List ℕ × List ℕ)) → AllByRecursion (λ (item : List ℕ × List ℕ). length item.1 ≤ longest_value) items → first_some if_long (over (λ item. item.1) items) ≡ None
+short-all : (items : List (List ℕ × List ℕ))
+    → AllByRecursion (λ (item : List ℕ × List ℕ). length item.1 ≤ longest_value) items
+    → first_some if_long (over (λ item. item.1) items) ≡ None
 short-all [] all = refl
-short-all (item ∷ items) all = ap (λ o. option_or o (first_some if_long (over (λ i. i.1) items))) (is_short item.1 all.0) ∙ short-all items all.1
+short-all (item ∷ items) all =
+    ap (λ o. option_or o (first_some if_long (over (λ i. i.1) items))) (is_short item.1 all.0) ∙ short-all items all.1
 
 -- keys that are within the limits have short texts
 pub short-limited : (keys : KeyMap) → IsLimited keys → AreShort keys
@@ -58,7 +64,8 @@ pub cascading-limited : (keys : KeyMap) → IsLimited keys → AreCascading keys
 cascading-limited keys limited name entry found = (limited.each name entry found).cascading
 
 -- sound keys with short texts that weigh little enough are within the limits
-pub limited-from : (point : Name) (keys : KeyMap) → AreSound point keys → AreShort keys → weight keys ≤ heaviest_map → IsLimited keys
+pub limited-from : (point : Name) (keys : KeyMap) → AreSound point keys → AreShort keys → weight keys ≤ heaviest_map
+    → IsLimited keys
 limited-from point keys sound short light = record { each = each; light = light }
   where
     each : (name : Name) (entry : Entry) → map.get keys name ≡ Some entry → IsLimitedKey name entry

@@ -32,8 +32,11 @@ use Rattle.mounted_files.proofs.WeighLemmas.{mounts-from}
 
 module _ (Reads : Reading) (IsBad : Badness) (bytes_of : List ℕ → List ℕ) where
   -- nothing was added yet
-  pub begins-first : (begun : Begun) (table : List Mount) (keys : KeyMap) → Holds Reads own_point Dump (bytes_of own_mount.file) keys → table_of keys ≡ Ok table → begun.table ≡ table
-      → begun.own ≡ weighed_behind 0 (Good (owned_by (over (λ (mount : Mount). mount.at) table) begun.place keys) (not_owned_by (over (λ (mount : Mount). mount.at) table) begun.place keys)) → begun.files ≡ [] → Begins Reads IsBad bytes_of begun
+  pub begins-first : (begun : Begun) (table : List Mount) (keys : KeyMap)
+      → Holds Reads own_point Dump (bytes_of own_mount.file) keys → table_of keys ≡ Ok table → begun.table ≡ table
+      → begun.own
+      ≡ weighed_behind 0 (Good (owned_by (over (λ (mount : Mount). mount.at) table) begun.place keys) (not_owned_by (over (λ (mount : Mount). mount.at) table) begun.place keys))
+      → begun.files ≡ [] → Begins Reads IsBad bytes_of begun
   begins-first begun table keys holds makes table_is own_is none = record {
     table = record { keys = keys; holds = holds; is = makes ∙ ap Ok (sym table_is) };
     own_state = Good (owned_by (over (λ (mount : Mount). mount.at) begun.table) begun.place keys) (not_owned_by (over (λ (mount : Mount). mount.at) begun.table) begun.place keys);
@@ -45,7 +48,8 @@ module _ (Reads : Reading) (IsBad : Badness) (bytes_of : List ℕ → List ℕ) 
   }
 
   -- one more file
-  pub begins-more : (begun : Begun) (sum : ℕ) (file : MountedFile) → Begins Reads IsBad bytes_of begun → sum ≡ visible_weight begun.own + sum_by added_weight begun.files
+  pub begins-more : (begun : Begun) (sum : ℕ) (file : MountedFile) → Begins Reads IsBad bytes_of begun
+      → sum ≡ visible_weight begun.own + sum_by added_weight begun.files
       → IsState Reads IsBad (over (λ mount. mount.at) begun.table) (number_of begun.place (length begun.files)) file.mount (bytes_of file.mount.file) file.state
       → Begins Reads IsBad bytes_of (record begun { files = begun.files ++ weighed_file sum file ∷ [] })
   begins-more begun sum file b sum_is state = record {
@@ -61,13 +65,16 @@ module _ (Reads : Reading) (IsBad : Badness) (bytes_of : List ℕ → List ℕ) 
       own : ℕ
       own = visible_weight begun.own
 
-      same_sum : sum ≡ visible_weight begun.own + sum_by added_weight (weighed_from (visible_weight begun.own) b.unweighed)
+      same_sum : sum
+          ≡ visible_weight begun.own + sum_by added_weight (weighed_from (visible_weight begun.own) b.unweighed)
       same_sum = sum_is ∙ ap (λ l. visible_weight begun.own + sum_by added_weight l) b.is
 
       counted : length begun.files ≡ length b.unweighed
       counted = ap length b.is ∙ length-weighed (visible_weight begun.own) b.unweighed
 
-      by : (i : ℕ) (other : MountedFile) → (slice_get b.unweighed i ≡ Some other) ⊎ ((i ≡ length b.unweighed) × (file ≡ other)) → IsState Reads IsBad (over (λ mount. mount.at) begun.table) (number_of begun.place i) other.mount (bytes_of other.mount.file) other.state
+      by : (i : ℕ) (other : MountedFile)
+          → (slice_get b.unweighed i ≡ Some other) ⊎ ((i ≡ length b.unweighed) × (file ≡ other))
+          → IsState Reads IsBad (over (λ mount. mount.at) begun.table) (number_of begun.place i) other.mount (bytes_of other.mount.file) other.state
       by i other (inl before) = b.states i other before
       by i other (inr last) =
           subst (λ (f : MountedFile). IsState Reads IsBad (over (λ mount. mount.at) begun.table) (number_of begun.place i) f.mount (bytes_of f.mount.file) f.state) last.1
@@ -84,10 +91,14 @@ module _ (Reads : Reading) (IsBad : Badness) (bytes_of : List ℕ → List ℕ) 
     its_own = own-name_eq own_point refl
 
     other_mounts : over (λ (file : MountedFile). file.mount) b.unweighed ≡ others begun
-    other_mounts = sym (mounts-from (visible_weight begun.own) b.unweighed) ∙ (ap (over (λ (file : MountedFile). file.mount)) (sym b.is) ∙ mounts)
+    other_mounts =
+        sym (mounts-from (visible_weight begun.own) b.unweighed)
+        ∙ (ap (over (λ (file : MountedFile). file.mount)) (sym b.is) ∙ mounts)
 
     all_mounts : over (λ (file : MountedFile). file.mount) all ≡ begun.table
-    all_mounts = over-insert (λ (file : MountedFile). file.mount) b.unweighed begun.place own_file ∙ (ap (λ ms. insert ms begun.place own_mount) other_mounts ∙ insert-remove begun.table begun.place own_mount own_there)
+    all_mounts =
+        over-insert (λ (file : MountedFile). file.mount) b.unweighed begun.place own_file
+        ∙ (ap (λ ms. insert ms begun.place own_mount) other_mounts ∙ insert-remove begun.table begun.place own_mount own_there)
 
     points : over (λ (mount : Mount). mount.at) begun.table ≡ points_of all
     points = ap (over (λ (mount : Mount). mount.at)) (sym all_mounts) ∙ points-of_mounts all
@@ -103,7 +114,9 @@ module _ (Reads : Reading) (IsBad : Badness) (bytes_of : List ℕ → List ℕ) 
     states : AreStates Reads IsBad bytes_of (points_of all) all
     states j file there = by (slice_get-insert b.unweighed begun.place own_file j file within there)
       where
-        by : ((j ≡ begun.place) × (own_file ≡ file)) ⊎ ((i : ℕ) × (number_of begun.place i ≡ j) × (slice_get b.unweighed i ≡ Some file)) → IsState Reads IsBad (points_of all) j file.mount (bytes_of file.mount.file) file.state
+        by : ((j ≡ begun.place) × (own_file ≡ file))
+            ⊎ ((i : ℕ) × (number_of begun.place i ≡ j) × (slice_get b.unweighed i ≡ Some file))
+            → IsState Reads IsBad (points_of all) j file.mount (bytes_of file.mount.file) file.state
         by (inl here) =
             subst (λ (f : MountedFile). IsState Reads IsBad (points_of all) j f.mount (bytes_of f.mount.file) f.state) here.1
             (subst (λ (ps : List Name). IsState Reads IsBad ps j own_mount (bytes_of own_mount.file) b.own_state) points
@@ -112,8 +125,10 @@ module _ (Reads : Reading) (IsBad : Badness) (bytes_of : List ℕ → List ℕ) 
             subst (λ (ps : List Name). IsState Reads IsBad ps j file.mount (bytes_of file.mount.file) file.state) points
             (subst (λ (n : ℕ). IsState Reads IsBad (over (λ mount. mount.at) begun.table) n file.mount (bytes_of file.mount.file) file.state) other.1 (b.states other.0 file other.2))
 
-    point_at : (n : ℕ) (mount : Mount) → slice_get begun.table n ≡ Some mount → slice_get (over (λ (m : Mount). m.at) begun.table) n ≡ Some mount.at
-    point_at n mount there = slice_get-map (λ (m : Mount). m.at) begun.table n ∙ ap (option_map (λ (m : Mount). m.at)) there
+    point_at : (n : ℕ) (mount : Mount) → slice_get begun.table n ≡ Some mount
+        → slice_get (over (λ (m : Mount). m.at) begun.table) n ≡ Some mount.at
+    point_at n mount there =
+        slice_get-map (λ (m : Mount). m.at) begun.table n ∙ ap (option_map (λ (m : Mount). m.at)) there
 
     none_own : (i : ℕ) (file : MountedFile) → slice_get b.unweighed i ≡ Some file → is_own file ≡ false
     none_own i file there = by (is_own file) refl
@@ -145,7 +160,9 @@ module _ (Reads : Reading) (IsBad : Badness) (bytes_of : List ℕ → List ℕ) 
         own_weighed = λ k. record { mount = own_mount; state = (b.own ∙ both (is_own own_file) b.own_state) k }
 
     -- all files together
-    pub is-opened : (mounted : List MountedFile) → mounted ≡ insert begun.files begun.place (record { mount = own_mount; state = begun.own }) → IsOpened Reads IsBad bytes_of mounted
+    pub is-opened : (mounted : List MountedFile)
+        → mounted ≡ insert begun.files begun.place (record { mount = own_mount; state = begun.own })
+        → IsOpened Reads IsBad bytes_of mounted
     is-opened mounted is = record {
       unweighed = all;
       table = subst (λ t. MakesTable Reads (bytes_of own_mount.file) (Ok t)) (sym all_mounts) b.table;

@@ -33,11 +33,13 @@ pub own-name_eq : (point : Name) → point ≡ own_point → name_eq point own_p
 own-name_eq point is = (name_decides point own_point).1 is
 
 -- what is found among entries stands among them
-find-place : {X : Type 0} (q : Name) (es : List (Name × X)) (v : X) → find name_cmp q es ≡ Some v → (i : ℕ) × (slice_get (over (λ e. e.1) es) i ≡ Some v)
+find-place : {X : Type 0} (q : Name) (es : List (Name × X)) (v : X) → find name_cmp q es ≡ Some v
+    → (i : ℕ) × (slice_get (over (λ e. e.1) es) i ≡ Some v)
 find-place q [] v found = absurd cc
 find-place q (e ∷ es) v found = by (find-place q es v) (eq_by_cmp name_cmp q e.0) found
   where
-    by : (find name_cmp q es ≡ Some v → (i : ℕ) × (slice_get (over (λ e. e.1) es) i ≡ Some v)) → (b : Bool) → cond b (Some e.1) (find name_cmp q es) ≡ Some v → (i : ℕ) × (slice_get (over (λ e. e.1) (e ∷ es)) i ≡ Some v)
+    by : (find name_cmp q es ≡ Some v → (i : ℕ) × (slice_get (over (λ e. e.1) es) i ≡ Some v)) → (b : Bool)
+        → cond b (Some e.1) (find name_cmp q es) ≡ Some v → (i : ℕ) × (slice_get (over (λ e. e.1) (e ∷ es)) i ≡ Some v)
     by rest true here = (0, here)
     by rest false there = let found = rest there in (suc found.0, found.1)
 
@@ -45,12 +47,15 @@ find-place q (e ∷ es) v found = by (find-place q es v) (eq_by_cmp name_cmp q e
 abbrev IsFound : List Mount → Type 0
 IsFound mounts = map.get (by_point mounts) own_point ≡ Some own_mount
 
-found-more : (mounts : List Mount) (mount : Mount) → IsFound mounts → own_point ≢ mount.at → IsFound (mounts ++ mount ∷ [])
+found-more : (mounts : List Mount) (mount : Mount) → IsFound mounts → own_point ≢ mount.at
+    → IsFound (mounts ++ mount ∷ [])
 found-more mounts mount found other =
-    ap (λ table. map.get table own_point) (by_point-snoc mounts mount) ∙ (get-elsewhere name_cmp_total name_cmp-IsAntisymmetric (by_point mounts) mount.at mount own_point other ∙ found)
+    ap (λ table. map.get table own_point) (by_point-snoc mounts mount)
+    ∙ (get-elsewhere name_cmp_total name_cmp-IsAntisymmetric (by_point mounts) mount.at mount own_point other ∙ found)
 
 -- no entry has the own point
-not_own : (taken : List ℕ → Bool) (text : Part) (said : MountEntry) (mount : Mount) → next_mount taken text said ≡ Ok mount → own_point ≢ mount.at
+not_own : (taken : List ℕ → Bool) (text : Part) (said : MountEntry) (mount : Mount)
+    → next_mount taken text said ≡ Ok mount → own_point ≢ mount.at
 not_own taken text said mount next same =
     let is = (IsPoint-from text mount.at (point_of-next taken text said mount next)).is in
     let apart = not (is_at_or_below own_point mount.at) in
@@ -61,7 +66,8 @@ not_own taken text said mount next same =
     let below : not (is_at_or_below own_point own_point) ≡ true = subst (λ (p : Name). not (is_at_or_below own_point p) ≡ true) (sym same) last.1 in
     let wrong : false ≡ true = below in cc
 
-found-all : (mounts : List Mount) (entries : List (Part × MountEntry)) (all : List Mount) → IsFound mounts → mounts_from mounts entries ≡ Ok all → IsFound all
+found-all : (mounts : List Mount) (entries : List (Part × MountEntry)) (all : List Mount) → IsFound mounts
+    → mounts_from mounts entries ≡ Ok all → IsFound all
 found-all mounts [] all found is = subst IsFound (ok_is mounts all is) found
 found-all mounts (entry ∷ entries) all found is =
     let next = from_then (next_mount (is_taken mounts) entry.0 entry.1) (λ mount. mounts_from (mounts ++ mount ∷ []) entries) all is in
@@ -74,7 +80,10 @@ own-there keys mounts is =
     let first : IsFound (remaining entries) = ap (λ table. map.get table own_point) (by_point-snoc (filter (remains entries) root_mounts) own_mount) ∙ get-insert_same name_cmp_total (by_point (filter (remains entries) root_mounts)) own_point own_mount in
     let found = found-all (remaining entries) (map.entries entries) made.0 first made.1 in
     let place = find-place own_point (map.entries (by_point made.0)) own_mount (sym (map.get-entries (by_point made.0) own_point) ∙ found) in
-    record { place = place.0; is = subst (λ ms. slice_get ms place.0 ≡ Some own_mount) (kept (in_order made.0) _ made.2) place.1 }
+    record {
+      place = place.0;
+      is = subst (λ ms. slice_get ms place.0 ≡ Some own_mount) (kept (in_order made.0) _ made.2) place.1;
+    }
   where
     kept : (all : List Mount) (b : Bool) → cond b (Err (TooMany (length all))) (Ok all) ≡ Ok mounts → all ≡ mounts
     kept all true e = absurd cc
@@ -87,16 +96,20 @@ module _ (table : List Mount) (points : List Name) (told : points ≡ over (λ (
   there = sym (at_place points i point within read)
 
   point_at : (j : ℕ) → slice_get table j ≡ Some own_mount → slice_get points j ≡ Some own_point
-  point_at j at_j = ap (λ ps. slice_get ps j) told ∙ (slice_get-map (λ (mount : Mount). mount.at) table j ∙ ap (option_map (λ (mount : Mount). mount.at)) at_j)
+  point_at j at_j =
+      ap (λ ps. slice_get ps j) told
+      ∙ (slice_get-map (λ (mount : Mount). mount.at) table j ∙ ap (option_map (λ (mount : Mount). mount.at)) at_j)
 
   -- a mount at the own point is the own mount
-  pub own-found : HasOwn table → IsStrictlySortedBy name_cmp points → name_eq point own_point ≡ true → slice_get table i ≡ Some own_mount
+  pub own-found : HasOwn table → IsStrictlySortedBy name_cmp points → name_eq point own_point ≡ true
+      → slice_get table i ≡ Some own_mount
   own-found has sorted is =
       let same = one_place points own_point i has.place sorted (there ∙ ap Some ((name_decides point own_point).0 is)) (point_at has.place has.is) in
       ap (slice_get table) same ∙ has.is
 
   -- at another point it doesn't stand
-  pub own-later : name_eq point own_point ≡ false → ((j : ℕ) → slice_get table j ≡ Some own_mount → i ≤ j) → (j : ℕ) → slice_get table j ≡ Some own_mount → i + 1 ≤ j
+  pub own-later : name_eq point own_point ≡ false → ((j : ℕ) → slice_get table j ≡ Some own_mount → i ≤ j) → (j : ℕ)
+      → slice_get table j ≡ Some own_mount → i + 1 ≤ j
   own-later other before j at_j = by (cases_lt i j)
     where
       by : (i < j) ⊎ (j ≤ i) → i + 1 ≤ j

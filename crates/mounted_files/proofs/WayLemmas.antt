@@ -40,8 +40,10 @@ joined-below : (point name : Name) → is_at_or_below point (joined point name) 
 joined-below point name = (is_at_or_below-Decides point (joined point name)).1 (by name.parts refl)
   where
     by : (rest : List Part) → name.parts ≡ rest → IsBelowOrSame (joined point name) point
-    by [] none = inl (λ i. record { namespace = point.namespace; parts = (ap (λ parts. point.parts ++ parts) none ∙ append-nil point.parts) i })
-    by (part ∷ rest) some = inr (record { same_namespace = refl; more = name.parts; some_more = λ none. let wrong : part ∷ rest ≡ [] = sym some ∙ none in cc; parts = refl })
+    by [] none =
+        inl (λ i. record { namespace = point.namespace; parts = (ap (λ parts. point.parts ++ parts) none ∙ append-nil point.parts) i })
+    by (part ∷ rest) some =
+        inr (record { same_namespace = refl; more = name.parts; some_more = λ none. let wrong : part ∷ rest ≡ [] = sym some ∙ none in cc; parts = refl })
 
 -- what leads from a point to a name behind it is what stands behind
 pub way-joined : (point name : Name) → name.namespace ≡ Cascading → way_to point (joined point name) ≡ Some name
@@ -51,21 +53,28 @@ way-joined point name cascading =
 
 -- ---- keys behind a point
 
-ways-whole : (point : Name) (es : List (Name × Entry)) → AllByRecursion (λ (e : Name × Entry). e.0.namespace ≡ Cascading) es → filter_map (as_way point) (over (as_whole point) es) ≡ es
+ways-whole : (point : Name) (es : List (Name × Entry))
+    → AllByRecursion (λ (e : Name × Entry). e.0.namespace ≡ Cascading) es
+    → filter_map (as_way point) (over (as_whole point) es) ≡ es
 ways-whole point [] all = refl
 ways-whole point (e ∷ es) all =
     ap (λ way. cons_option (option_map {U = Name × Entry} (λ w. (w, e.1)) way) (filter_map (as_way point) (over (as_whole point) es))) (way-joined point e.0 all.0)
     ∙ ap (λ rest. e ∷ rest) (ways-whole point es all.1)
 
 -- cascading names keep their order behind a point, so keys stay sorted
-below-behind : (point q : Name) (es : List (Name × Entry)) → q.namespace ≡ Cascading → AllByRecursion (λ (e : Name × Entry). e.0.namespace ≡ Cascading) es → T (below_all name_cmp q es) → T (below_all name_cmp (joined point q) (over (as_whole point) es))
+below-behind : (point q : Name) (es : List (Name × Entry)) → q.namespace ≡ Cascading
+    → AllByRecursion (λ (e : Name × Entry). e.0.namespace ≡ Cascading) es → T (below_all name_cmp q es)
+    → T (below_all name_cmp (joined point q) (over (as_whole point) es))
 below-behind point q [] cascading all below = tt
 below-behind point q (e ∷ es) cascading all below =
     both _ _ (is_less _ (joined_order point q e.0 cascading all.0 (less _ (first _ _ below)))) (below-behind point q es cascading all.1 (second _ _ below))
 
-sorted-behind : (point : Name) (es : List (Name × Entry)) → AllByRecursion (λ (e : Name × Entry). e.0.namespace ≡ Cascading) es → T (is_sorted name_cmp es) → T (is_sorted name_cmp (over (as_whole point) es))
+sorted-behind : (point : Name) (es : List (Name × Entry))
+    → AllByRecursion (λ (e : Name × Entry). e.0.namespace ≡ Cascading) es → T (is_sorted name_cmp es)
+    → T (is_sorted name_cmp (over (as_whole point) es))
 sorted-behind point [] all sorted = tt
-sorted-behind point (e ∷ es) all sorted = both _ _ (below-behind point e.0 es all.0 all.1 (first _ _ sorted)) (sorted-behind point es all.1 (second _ _ sorted))
+sorted-behind point (e ∷ es) all sorted =
+    both _ _ (below-behind point e.0 es all.0 all.1 (first _ _ sorted)) (sorted-behind point es all.1 (second _ _ sorted))
 
 -- sorted entries that are set among none are those of the map
 set-alone : (es : List (Name × Entry)) → T (is_sorted name_cmp es) → map.entries (with_keys es no_keys) ≡ es
@@ -87,7 +96,8 @@ relative-whole point keys cascading =
 
 -- ---- what a mount owns, and the rest
 
-pub parts-together : (points : List Name) (i : ℕ) (keys : KeyMap) → with_all (owned_by points i keys) (not_owned_by points i keys) ≡ keys
+pub parts-together : (points : List Name) (i : ℕ) (keys : KeyMap)
+    → with_all (owned_by points i keys) (not_owned_by points i keys) ≡ keys
 parts-together points i keys = map.same_map name_cmp_total name_cmp-IsAntisymmetric _ _ (λ name.
     get-with_all (owned_by points i keys) (not_owned_by points i keys) name
     ∙ ap (λ found. option_or found (map.get (not_owned_by points i keys) name)) (get-retain name_cmp_total name_cmp-IsAntisymmetric keys (owns points i) name)
@@ -99,5 +109,7 @@ parts-together points i keys = map.same_map name_cmp_total name_cmp-IsAntisymmet
     by true None = refl
     by false found = refl
 
-pub owned-own : (points : List Name) (i : ℕ) (keys : KeyMap) (name : Name) (entry : Entry) → map.get (owned_by points i keys) name ≡ Some entry → owns points i name ≡ true
-owned-own points i keys name entry found = (cond_some (owns points i name) (map.get keys name) entry (sym (get-retain name_cmp_total name_cmp-IsAntisymmetric keys (owns points i) name) ∙ found)).0
+pub owned-own : (points : List Name) (i : ℕ) (keys : KeyMap) (name : Name) (entry : Entry)
+    → map.get (owned_by points i keys) name ≡ Some entry → owns points i name ≡ true
+owned-own points i keys name entry found =
+    (cond_some (owns points i name) (map.get keys name) entry (sym (get-retain name_cmp_total name_cmp-IsAntisymmetric keys (owns points i) name) ∙ found)).0

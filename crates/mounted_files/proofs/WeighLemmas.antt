@@ -9,9 +9,11 @@ use Rattle.mounted_files.specs.declared.files.FileState.{FileState}
 use Rattle.mounted_files.specs.declared.files.FileState.TheVariants.{Good, Bad}
 use Rattle.mounted_files.specs.declared.files.MountedFile.{MountedFile}
 
-pub mounts-from : (sum : ℕ) (files : List MountedFile) → over (λ file. file.mount) (weighed_from sum files) ≡ over (λ file. file.mount) files
+pub mounts-from : (sum : ℕ) (files : List MountedFile)
+    → over (λ file. file.mount) (weighed_from sum files) ≡ over (λ file. file.mount) files
 mounts-from sum [] = refl
-mounts-from sum (file ∷ files) = ap (λ l. file.mount ∷ l) (mounts-from (sum + added_weight (weighed_file sum file)) files)
+mounts-from sum (file ∷ files) =
+    ap (λ l. file.mount ∷ l) (mounts-from (sum + added_weight (weighed_file sum file)) files)
 
 pub short-behind : (sum : ℕ) (state : FileState) → HasShortTexts state → HasShortTexts (weighed_behind sum state)
 short-behind sum (Good visible shadow) short = by (nat_lt heaviest_map (sum + weight visible))
@@ -22,5 +24,6 @@ short-behind sum (Good visible shadow) short = by (nat_lt heaviest_map (sum + we
 short-behind sum (Bad cause) short = tt
 
 -- so does weighing one file
-pub weighed_file-short : (sum : ℕ) (file : MountedFile) → HasShortTexts file.state → HasShortTexts (weighed_file sum file).state
+pub weighed_file-short : (sum : ℕ) (file : MountedFile) → HasShortTexts file.state
+    → HasShortTexts (weighed_file sum file).state
 weighed_file-short sum file short = short-behind _ file.state short

@@ -16,5 +16,6 @@ pub record Begins (Reads : Reading) (IsBad : Badness) (bytes_of : List ℕ → L
   pub own_is : IsState Reads IsBad (over (λ mount. mount.at) begun.table) begun.place own_mount (bytes_of own_mount.file) own_state
   pub own : begun.own ≡ weighed_behind 0 own_state
   pub unweighed : List MountedFile
-  pub states : (i : ℕ) (file : MountedFile) → slice_get unweighed i ≡ Some file → IsState Reads IsBad (over (λ mount. mount.at) begun.table) (number_of begun.place i) file.mount (bytes_of file.mount.file) file.state
+  pub states : (i : ℕ) (file : MountedFile) → slice_get unweighed i ≡ Some file
+      → IsState Reads IsBad (over (λ mount. mount.at) begun.table) (number_of begun.place i) file.mount (bytes_of file.mount.file) file.state
   pub is : begun.files ≡ weighed_from (visible_weight begun.own) unweighed

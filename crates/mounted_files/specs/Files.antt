@@ -55,7 +55,8 @@ pub record IsOverLong (bytes : List ℕ) (n : ℕ) : Type 0 where
 -- why a file by itself is bad
 abbrev pub IsCause : Reading → Badness → Name → Kind → List ℕ → Cause → Type 0
 IsCause Reads IsBad point kind bytes (TooLong n) = IsOverLong bytes n
-IsCause Reads IsBad point kind bytes (BadFile line) = IsBadAt IsBad kind bytes line ⊎ HasLongName Reads point kind bytes line
+IsCause Reads IsBad point kind bytes (BadFile line) =
+    IsBadAt IsBad kind bytes line ⊎ HasLongName Reads point kind bytes line
 IsCause Reads IsBad point kind bytes (TooHeavy weight) = ⊥
 
 -- what the file of a mount means: those of its keys that the mount owns are visible, the others are its shadow

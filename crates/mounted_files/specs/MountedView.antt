@@ -26,7 +26,8 @@ pub record IsBegun (inside : opening.Inside) : Type 0 where
   pub ascending : IsStrictlySortedBy name_cmp (map (λ mount. mount.at) inside.table)
   pub place : slice_get inside.table inside.place ≡ Some own_mount
   pub few : length inside.files.items ≤ length (remove inside.table inside.place)
-  pub table : map (λ file. file.mount) inside.files.items ≡ take (length inside.files.items) (remove inside.table inside.place)
+  pub table : map (λ file. file.mount) inside.files.items
+      ≡ take (length inside.files.items) (remove inside.table inside.place)
   pub own_short : HasShortTexts inside.own
   pub short : HaveShortTexts inside.files.items
   pub sum : inside.sum ≡ visible_weight inside.own + sum_by added_weight inside.files.items

@@ -19,7 +19,8 @@ long_text entry = first_some if_long (entry.value ∷ map.values entry.meta)
 
 -- the first text of a key that is too long, where one of some mounts owns it: the key's name, and the text's length
 abbrev pub long_in : List Name → List ℕ → Name × Entry → Option (Name × ℕ)
-long_in points mounts key = if list_any (λ i. owns points i key.0) mounts then option_map (λ bytes. (key.0, bytes)) (long_text key.1) else None
+long_in points mounts key =
+    if list_any (λ i. owns points i key.0) mounts then option_map (λ bytes. (key.0, bytes)) (long_text key.1) else None
 
 -- the first key, of those that some of these mounts own, with a text that is too long
 abbrev pub first_long_in : List Name → List ℕ → KeyMap → Option (Name × ℕ)

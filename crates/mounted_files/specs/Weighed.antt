@@ -37,7 +37,8 @@ added_weight file = if is_own file then 0 else visible_weight file.state
 -- files weighed in the order of the table, behind others
 abbrev pub weighed_from : ℕ → List MountedFile → List MountedFile
 weighed_from sum [] = []
-weighed_from sum (file ∷ files) = let first = weighed_file sum file in first ∷ weighed_from (sum + added_weight first) files
+weighed_from sum (file ∷ files) =
+    let first = weighed_file sum file in first ∷ weighed_from (sum + added_weight first) files
 
 -- what a file weighs that is the table's own, which is weighed behind none
 abbrev pub own_alone : MountedFile → Option ℕ

@@ -40,14 +40,17 @@ pub record HoldsStorable (IsStorable : Storing) (points : List Name) (i : ℕ) (
 
 -- a good file is such
 abbrev pub CanBeWritten : Storing → List Name → ℕ → Mount → FileState → Type 0
-CanBeWritten IsStorable points i mount (state.Good visible shadow) = HoldsStorable IsStorable points i mount visible shadow
+CanBeWritten IsStorable points i mount (state.Good visible shadow) =
+    HoldsStorable IsStorable points i mount visible shadow
 CanBeWritten IsStorable points i mount (state.Bad cause) = Unit {0}
 
 -- each file of an opening so far can be written again
 pub record CanBeWrittenSoFar (IsStorable : Storing) (begun : Begun) : Type 0 where
   pub own : CanBeWritten IsStorable (over (λ mount. mount.at) begun.table) begun.place own_mount begun.own
-  pub others : (i : ℕ) (file : MountedFile) → slice_get begun.files i ≡ Some file → CanBeWritten IsStorable (over (λ mount. mount.at) begun.table) (number_of begun.place i) file.mount file.state
+  pub others : (i : ℕ) (file : MountedFile) → slice_get begun.files i ≡ Some file
+      → CanBeWritten IsStorable (over (λ mount. mount.at) begun.table) (number_of begun.place i) file.mount file.state
 
 -- each of some files can
 abbrev pub AllCanBeWritten : Storing → List MountedFile → Type 0
-AllCanBeWritten IsStorable files = (i : ℕ) (file : MountedFile) → slice_get files i ≡ Some file → CanBeWritten IsStorable (points_of files) i file.mount file.state
+AllCanBeWritten IsStorable files =
+    (i : ℕ) (file : MountedFile) → slice_get files i ≡ Some file → CanBeWritten IsStorable (points_of files) i file.mount file.state

@@ -115,7 +115,8 @@ impl Opening {
             IsWhole (bytes_of mount.file) read.now →
             OnOk result (Begins F.reads F.is_bad_at bytes_of self.new) }
         ensures count { OnOk result (length self.new.files ≡ length self.old.files + 1) }
-        ensures storable { CanBeWrittenSoFar F.is_storable self.old → OnOk result (CanBeWrittenSoFar F.is_storable self.new) }
+        ensures storable { CanBeWrittenSoFar F.is_storable self.old
+            → OnOk result (CanBeWrittenSoFar F.is_storable self.new) }
         ensures others { others self.new ≡ others self.old }
         ensures err { OnErr result (self.new ≡ self.old) }
     {

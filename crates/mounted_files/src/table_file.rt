@@ -35,7 +35,8 @@ pub fn read_table_file<F: Formats>(
     formats: &F,
     own: &FileRead,
 ) -> Result<TableFile, OpenRefusal>
-    ensures read { (bytes : List ℕ) → IsWhole bytes own.now → MatchResult result (λ read. Holds F.reads own_point Dump bytes read.keys) (RefusesOpening F.reads F.is_bad_at bytes) }
+    ensures read { (bytes : List ℕ) → IsWhole bytes own.now
+        → MatchResult result (λ read. Holds F.reads own_point Dump bytes read.keys) (RefusesOpening F.reads F.is_bad_at bytes) }
     ensures table { IfOk result (λ read. table_of read.keys ≡ Ok read.table) }
     ensures short { IfOk result (λ read. AreShort read.keys) }
     ensures storable { IfOk result (λ read. CanBeTable F.is_storable read.keys) }

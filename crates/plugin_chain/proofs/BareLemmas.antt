@@ -19,16 +19,19 @@ module _ (value : List ℕ) (meta : Meta) (bare : length (finite.entries meta) �
 
   keeps_type : (broken : Broken) → BreaksType value meta broken → ⊥
   keeps_type broken (UnknownType word has unknown is) = let missing = none (codes "type") in absurd (cc (has, missing))
-  keeps_type broken (WrongType word kind has known other is) = let missing = none (codes "type") in absurd (cc (has, missing))
+  keeps_type broken (WrongType word kind has known other is) =
+      let missing = none (codes "type") in absurd (cc (has, missing))
 
   keeps_range : (broken : Broken) → BreaksRange value meta broken → ⊥
   keeps_range broken (BadRange text has bad is) = let missing = none (codes "check/range") in absurd (cc (has, missing))
-  keeps_range broken (OutOfRange text intervals has range out is) = let missing = none (codes "check/range") in absurd (cc (has, missing))
+  keeps_range broken (OutOfRange text intervals has range out is) =
+      let missing = none (codes "check/range") in absurd (cc (has, missing))
 
   keeps_pattern : KeepsPattern Matches value meta
   keeps_pattern pattern has = let missing = none (codes "check/validation") in absurd (cc (has, missing))
 
-  pub adds_none : (HasRisen : Type 0) (name : Name) (list : List Violation) → Adds HasRisen (name, record { value = value; meta = meta }) list list
+  pub adds_none : (HasRisen : Type 0) (name : Name) (list : List Violation)
+      → Adds HasRisen (name, record { value = value; meta = meta }) list list
   adds_none HasRisen name list = record {
     own = [];
     are = record {

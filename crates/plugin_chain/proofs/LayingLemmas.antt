@@ -19,7 +19,8 @@ abbrev pub found_over : Meta → List (List ℕ × List ℕ) → List ℕ → Op
 found_over meta items q = option_or (map.get meta q) (find text_cmp q items)
 
 -- metadata that finds what other finds with all of a third behind it is laid over that
-pub laid_over_all : (old other new : Meta) → ((q : List ℕ) → found_over new [] q ≡ found_over old (map.entries other) q) → new ≡ laid_over (old ∷ other ∷ [])
+pub laid_over_all : (old other new : Meta) → ((q : List ℕ) → found_over new [] q ≡ found_over old (map.entries other) q)
+    → new ≡ laid_over (old ∷ other ∷ [])
 laid_over_all old other new each = map.same_map text_cmp-total text_cmp-IsAntisymmetric new (laid_over (old ∷ other ∷ [])) (λ q.
     sym (or_none (map.get new q))
     ∙ each q
@@ -27,7 +28,8 @@ laid_over_all old other new each = map.same_map text_cmp-total text_cmp-IsAntisy
     ∙ sym (get-over old other q))
 
 -- a text that is missing is found where it was before, behind the metadata
-pub found_over-next : (meta : Meta) (name text : List ℕ) (items : List (List ℕ × List ℕ)) (q : List ℕ) → found_over (with_missing name text meta) items q ≡ found_over meta ((name, text) ∷ items) q
+pub found_over-next : (meta : Meta) (name text : List ℕ) (items : List (List ℕ × List ℕ)) (q : List ℕ)
+    → found_over (with_missing name text meta) items q ≡ found_over meta ((name, text) ∷ items) q
 found_over-next meta name text items q = by (map.get meta name) refl
   where
     rest : Option (List ℕ)
@@ -36,7 +38,9 @@ found_over-next meta name text items q = by (map.get meta name) refl
     same_name : eq_by_cmp text_cmp q name ≡ true → q ≡ name
     same_name same = text_cmp-IsAntisymmetric q name (tied _ same)
 
-    by : (o : Option (List ℕ)) → map.get meta name ≡ o → option_or (map.get (cond (is_some o) meta (map.insert meta name text)) q) rest ≡ option_or (map.get meta q) (cond (eq_by_cmp text_cmp q name) (Some text) rest)
+    by : (o : Option (List ℕ)) → map.get meta name ≡ o
+        → option_or (map.get (cond (is_some o) meta (map.insert meta name text)) q) rest
+        ≡ option_or (map.get meta q) (cond (eq_by_cmp text_cmp q name) (Some text) rest)
     by (Some had) is = elim (eq_by_cmp text_cmp q name) as (λ b. eq_by_cmp text_cmp q name ≡ b → option_or (map.get meta q) rest ≡ option_or (map.get meta q) (cond b (Some text) rest)) [
       | true ↦ λ same.
           let there : map.get meta q ≡ Some had = ap (map.get meta) (same_name same) ∙ is in

@@ -22,7 +22,8 @@ module _ (points : List Name) (mounts : List ℕ) (name : Name) where
   pub not_owned : list_any (is_below_at points name) mounts ≡ false → is_owned points mounts name ≡ false
   not_owned none = by (owner_of points name) refl
     where
-      by : (o : Option ℕ) → owner_of points name ≡ o → option_map_or (λ owner. list_any (nat_eq owner) mounts) o false ≡ false
+      by : (o : Option ℕ) → owner_of points name ≡ o
+          → option_map_or (λ owner. list_any (nat_eq owner) mounts) o false ≡ false
       by None is = refl
       by (Some i) is = false_from_ne_true _ (λ among.
           let there = Any-from_list_any (nat_eq i) mounts among in

@@ -42,21 +42,26 @@ all_front P zero xs h = tt
 all_front P (suc n) [] h = tt
 all_front P (suc n) (x ∷ xs) h = (h.0, all_front P n xs h.1)
 
-pub all_both : {A : Type 0} (P Q R : A → Type 0) → ((x : A) → P x → Q x → R x) → (xs : List A) → AllByRecursion P xs → AllByRecursion Q xs → AllByRecursion R xs
+pub all_both : {A : Type 0} (P Q R : A → Type 0) → ((x : A) → P x → Q x → R x) → (xs : List A) → AllByRecursion P xs
+    → AllByRecursion Q xs → AllByRecursion R xs
 all_both P Q R each [] p q = tt
 all_both P Q R each (x ∷ xs) p q = (each x p.0 q.0, all_both P Q R each xs p.1 q.1)
 
 -- what holds before a place, and what from it on
-within_front : {A : Type 0} (P : A → Type 0) (xs : List A) (n : ℕ) → n ≤ length xs → AllWithin P xs 0 n → AllByRecursion P (take n xs)
+within_front : {A : Type 0} (P : A → Type 0) (xs : List A) (n : ℕ) → n ≤ length xs → AllWithin P xs 0 n
+    → AllByRecursion P (take n xs)
 within_front P xs zero le h = tt
 within_front P [] (suc n) le h = tt
-within_front P (x ∷ xs) (suc n) le h = (h 0 x (omega arith) (omega arith), within_front P xs n (omega arith) (λ k d low high. h (suc k) d (omega arith) (omega arith)))
+within_front P (x ∷ xs) (suc n) le h =
+    (h 0 x (omega arith) (omega arith), within_front P xs n (omega arith) (λ k d low high. h (suc k) d (omega arith) (omega arith)))
 
 within_all : {A : Type 0} (P : A → Type 0) (xs : List A) → AllWithin P xs 0 (length xs) → AllByRecursion P xs
 within_all P [] h = tt
-within_all P (x ∷ xs) h = (h 0 x (omega arith) (omega arith), within_all P xs (λ k d low high. h (suc k) d (omega arith) (omega arith)))
+within_all P (x ∷ xs) h =
+    (h 0 x (omega arith) (omega arith), within_all P xs (λ k d low high. h (suc k) d (omega arith) (omega arith)))
 
-within_rest : {A : Type 0} (P : A → Type 0) (xs : List A) (n : ℕ) → AllWithin P xs n (length xs) → AllByRecursion P (drop n xs)
+within_rest : {A : Type 0} (P : A → Type 0) (xs : List A) (n : ℕ) → AllWithin P xs n (length xs)
+    → AllByRecursion P (drop n xs)
 within_rest P xs zero h = within_all P xs h
 within_rest P [] (suc n) h = tt
 within_rest P (x ∷ xs) (suc n) h = within_rest P xs n (λ k d low high. h (suc k) d (omega arith) (omega arith))
@@ -75,19 +80,25 @@ module _ {K : Type 0} (c : K → K → Ordering) where
   sorted_rest (suc n) (x ∷ xs) h = sorted_rest n xs h.1
 
   -- a test that holds of each that is less than one of which it holds parts the list
-  sorted_parts : (test : K → Bool) → ((x y : K) → c x y ≡ Less → test y ≡ true → test x ≡ true) → (xs : List K) → IsStrictlySortedBy c xs → IsPartitionedBy test xs
+  sorted_parts : (test : K → Bool) → ((x y : K) → c x y ≡ Less → test y ≡ true → test x ≡ true) → (xs : List K)
+      → IsStrictlySortedBy c xs → IsPartitionedBy test xs
   unfolding IsStrictlySortedBy
   sorted_parts test falls [] h i j d le lt holds = absurd (omega arith)
   sorted_parts test falls (x ∷ xs) h zero zero d le lt holds = holds
-  sorted_parts test falls (x ∷ xs) h zero (suc j) d le lt holds = falls x (get_or xs j d) (All-from_recursion (λ y. c x y ≡ Less) xs h.0 j d (omega arith)) holds
+  sorted_parts test falls (x ∷ xs) h zero (suc j) d le lt holds =
+      falls x (get_or xs j d) (All-from_recursion (λ y. c x y ≡ Less) xs h.0 j d (omega arith)) holds
   sorted_parts test falls (x ∷ xs) h (suc i) zero d le lt holds = absurd (omega arith)
-  sorted_parts test falls (x ∷ xs) h (suc i) (suc j) d le lt holds = sorted_parts test falls xs h.1 i j d (omega arith) (omega arith) holds
+  sorted_parts test falls (x ∷ xs) h (suc i) (suc j) d le lt holds =
+      sorted_parts test falls xs h.1 i j d (omega arith) (omega arith) holds
 
 -- an order that follows from another one, for elements of which something holds
-sorted_by : {K : Type 0} (c e : K → K → Ordering) (P : K → Type 0) → ((x y : K) → P x → P y → c x y ≡ Less → e x y ≡ Less) → (xs : List K) → AllByRecursion P xs → IsStrictlySortedBy c xs → IsStrictlySortedBy e xs
+sorted_by : {K : Type 0} (c e : K → K → Ordering) (P : K → Type 0)
+    → ((x y : K) → P x → P y → c x y ≡ Less → e x y ≡ Less) → (xs : List K) → AllByRecursion P xs
+    → IsStrictlySortedBy c xs → IsStrictlySortedBy e xs
 unfolding IsStrictlySortedBy
 sorted_by c e P each [] p h = tt
-sorted_by c e P each (x ∷ xs) p h = (all_both P (λ y. c x y ≡ Less) (λ y. e x y ≡ Less) (λ y q lt. each x y p.0 q lt) xs p.1 h.0, sorted_by c e P each xs p.1 h.1)
+sorted_by c e P each (x ∷ xs) p h =
+    (all_both P (λ y. c x y ≡ Less) (λ y. e x y ≡ Less) (λ y q lt. each x y p.0 q lt) xs p.1 h.0, sorted_by c e P each xs p.1 h.1)
 
 -- ---- parts at a depth
 
@@ -100,7 +111,8 @@ module _ (test : Ordering → Bool) (of_less : test Less ≡ true) (of_greater :
     | Greater ↦ λ is t. let clash : false ≡ true = sym of_greater ∙ t in absurd cc
   ] refl h
 
-  first_falls : (s t : List Part) (word : Part) → slice_cmp part_cmp s t ≡ Less → test (cmp_at (slice_get t 0) word) ≡ true → test (cmp_at (slice_get s 0) word) ≡ true
+  first_falls : (s t : List Part) (word : Part) → slice_cmp part_cmp s t ≡ Less
+      → test (cmp_at (slice_get t 0) word) ≡ true → test (cmp_at (slice_get s 0) word) ≡ true
   first_falls [] t word lt h = of_less
   first_falls (a ∷ s) [] word lt h = absurd cc
   first_falls (a ∷ s) (b ∷ t) word lt h = elim (part_cmp a b) as (λ r. part_cmp a b ≡ r → ordering_then r (slice_cmp part_cmp s t) ≡ Less → test (part_cmp a word) ≡ true) [
@@ -115,14 +127,17 @@ first_behind (suc depth) [] = refl
 first_behind (suc depth) (p ∷ ps) = first_behind depth ps
 
 -- the globs that pass a test of their part at a depth stand first
-parted : (test : Ordering → Bool) → test Less ≡ true → test Greater ≡ false → (depth : ℕ) (word : Part) (globs : List Glob) → IsRising depth globs → IsPartitionedBy (λ glob. test (beside depth word glob)) globs
+parted : (test : Ordering → Bool) → test Less ≡ true → test Greater ≡ false
+    → (depth : ℕ) (word : Part) (globs : List Glob) → IsRising depth globs
+    → IsPartitionedBy (λ glob. test (beside depth word glob)) globs
 parted test of_less of_greater depth word globs rising =
     sorted_parts (λ a b. slice_cmp part_cmp (drop depth (parts_of a)) (drop depth (parts_of b))) (λ glob. test (beside depth word glob)) (λ x y lt h.
     subst (λ o. test (cmp_at o word) ≡ true) (first_behind depth (parts_of x))
     (first_falls test of_less of_greater (drop depth (parts_of x)) (drop depth (parts_of y)) word lt (subst (λ o. test (cmp_at o word) ≡ true) (sym (first_behind depth (parts_of y))) h))) globs rising
 
 -- so a search finds where the others begin
-pub splits : (test : Ordering → Bool) → test Less ≡ true → test Greater ≡ false → (depth : ℕ) (word : Part) (globs : List Glob) (place : ℕ) → IsRising depth globs → place ≤ length globs
+pub splits : (test : Ordering → Bool) → test Less ≡ true → test Greater ≡ false
+    → (depth : ℕ) (word : Part) (globs : List Glob) (place : ℕ) → IsRising depth globs → place ≤ length globs
     → (IsPartitionedBy (λ glob. test (beside depth word glob)) globs → IsPartitionPoint (λ glob. test (beside depth word glob) ≡ true) (λ glob. test (beside depth word glob) ≡ false) globs place)
     → SplitsAt (λ glob. test (beside depth word glob)) globs place
 splits test of_less of_greater depth word globs place rising bound finds =
@@ -140,9 +155,12 @@ some_there [] some = absurd cc
 some_there (glob ∷ globs) some = omega arith
 
 -- the first one fails, so all do
-pub splits_first : (test : Ordering → Bool) → test Less ≡ true → test Greater ≡ false → (depth : ℕ) (word : Part) (globs : List Glob) (glob : Glob) → IsRising depth globs → (length globs == 0) ≡ false → glob ≡ get_or globs 0 glob
+pub splits_first : (test : Ordering → Bool) → test Less ≡ true → test Greater ≡ false
+    → (depth : ℕ) (word : Part) (globs : List Glob) (glob : Glob) → IsRising depth globs → (length globs == 0) ≡ false
+    → glob ≡ get_or globs 0 glob
     → test (beside depth word glob) ≡ false → SplitsAt (λ glob. test (beside depth word glob)) globs 0
-splits_first test of_less of_greater depth word globs glob rising some is fails = record { bound = omega arith; front = tt; back = within_all _ globs (λ k d low high. each k d high) }
+splits_first test of_less of_greater depth word globs glob rising some is fails =
+    record { bound = omega arith; front = tt; back = within_all _ globs (λ k d low high. each k d high) }
   where
     each : (k : ℕ) (d : Glob) → k < length globs → test (beside depth word (get_or globs k d)) ≡ false
     each k d high = elim (test (beside depth word (get_or globs k d))) as (λ b. test (beside depth word (get_or globs k d)) ≡ b → b ≡ false) [
@@ -155,7 +173,9 @@ splits_first test of_less of_greater depth word globs glob rising some is fails 
     ] refl
 
 -- the last one passes, so all do
-pub splits_last : (test : Ordering → Bool) → test Less ≡ true → test Greater ≡ false → (depth : ℕ) (word : Part) (globs : List Glob) (glob : Glob) → IsRising depth globs → (length globs == 0) ≡ false → glob ≡ get_or globs (length globs - 1) glob
+pub splits_last : (test : Ordering → Bool) → test Less ≡ true → test Greater ≡ false
+    → (depth : ℕ) (word : Part) (globs : List Glob) (glob : Glob) → IsRising depth globs → (length globs == 0) ≡ false
+    → glob ≡ get_or globs (length globs - 1) glob
     → test (beside depth word glob) ≡ true → SplitsAt (λ glob. test (beside depth word glob)) globs (length globs)
 splits_last test of_less of_greater depth word globs glob rising some is holds = record {
   bound = omega arith;
@@ -167,16 +187,21 @@ splits_last test of_less of_greater depth word globs glob rising some is holds =
 }
 
 -- those behind a place rise too
-pub rising_rest : (depth n : ℕ) (globs rest : List Glob) → rest ≡ drop n globs → IsRising depth globs → IsRising depth rest
+pub rising_rest : (depth n : ℕ) (globs rest : List Glob) → rest ≡ drop n globs → IsRising depth globs
+    → IsRising depth rest
 rising_rest depth n globs rest is rising = subst (IsRising depth) (sym is) (sorted_rest _ n globs rising)
 
 -- ---- one depth more
 
-part_then : (ps : List Part) (depth : ℕ) (word : Part) → slice_get ps depth ≡ Some word → drop depth ps ≡ word ∷ drop (depth + 1) ps
-part_then ps depth word is = drop_more ps depth word (slice_get_within ps depth word is) ∙ ap (λ p. p ∷ drop (depth + 1) ps) (get_or_from_slice_get ps depth word word is)
+part_then : (ps : List Part) (depth : ℕ) (word : Part) → slice_get ps depth ≡ Some word
+    → drop depth ps ≡ word ∷ drop (depth + 1) ps
+part_then ps depth word is =
+    drop_more ps depth word (slice_get_within ps depth word is)
+    ∙ ap (λ p. p ∷ drop (depth + 1) ps) (get_or_from_slice_get ps depth word word is)
 
 -- those with one part at a depth rise from the next depth on
-pub deeper : (depth : ℕ) (word : Part) (globs : List Glob) → AllByRecursion (HasPart depth word) globs → IsRising depth globs → IsRising (depth + 1) globs
+pub deeper : (depth : ℕ) (word : Part) (globs : List Glob) → AllByRecursion (HasPart depth word) globs
+    → IsRising depth globs → IsRising (depth + 1) globs
 deeper depth word globs same rising = sorted_by _ _ (HasPart depth word) (λ x y of_x of_y lt.
     ap (λ r. ordering_then r (slice_cmp part_cmp (drop (depth + 1) (parts_of x)) (drop (depth + 1) (parts_of y)))) (sym (tied_itself nat_list_cmp_total word))
     ∙ sym (ap₂ (slice_cmp part_cmp) (part_then (parts_of x) depth word of_x) (part_then (parts_of y) depth word of_y))
@@ -203,11 +228,14 @@ has_word : (o : Option Part) (word : Part) → cmp_at o word ≡ Equal → o ≡
 has_word None word e = absurd cc
 has_word (Some part) word e = ap Some (text_cmp-IsAntisymmetric part word e)
 
-pub all_weaker : {A : Type 0} (P Q : A → Type 0) → ((x : A) → P x → Q x) → (xs : List A) → AllByRecursion P xs → AllByRecursion Q xs
+pub all_weaker : {A : Type 0} (P Q : A → Type 0) → ((x : A) → P x → Q x) → (xs : List A) → AllByRecursion P xs
+    → AllByRecursion Q xs
 all_weaker P Q each xs p = all_both P P Q (λ x h _. each x h) xs p p
 
-pub cut_is : (depth : ℕ) (word : Part) (globs rest same behind : List Glob) (n m : ℕ) → IsRising depth globs → SplitsAt (λ glob. is_lt (beside depth word glob)) globs n → rest ≡ drop n globs
-    → SplitsAt (λ glob. is_le (beside depth word glob)) rest m → same ≡ take m rest → behind ≡ drop m rest → IsCut depth word globs same behind
+pub cut_is : (depth : ℕ) (word : Part) (globs rest same behind : List Glob) (n m : ℕ) → IsRising depth globs
+    → SplitsAt (λ glob. is_lt (beside depth word glob)) globs n → rest ≡ drop n globs
+    → SplitsAt (λ glob. is_le (beside depth word glob)) rest m → same ≡ take m rest → behind ≡ drop m rest
+    → IsCut depth word globs same behind
 cut_is depth word globs rest same behind n m rising low is_rest high is_same is_behind =
     let rest_rising : IsRising depth rest = rising_rest depth n globs rest is_rest rising in
     let not_less : AllByRecursion (λ glob. is_lt (beside depth word glob) ≡ false) rest = subst (AllByRecursion (λ glob. is_lt (beside depth word glob) ≡ false)) (sym is_rest) low.back in
@@ -225,26 +253,32 @@ cut_is depth word globs rest same behind n m rising low is_rest high is_same is_
 
 -- ---- the globs of a set
 
-entries_rise : (es : List (Name × Entry)) → AllByRecursion (λ (key : Name × Entry). key.0.namespace ≡ Spec) es → T (is_sorted name_cmp es) → IsStrictlySortedBy (λ (a b : Name × Entry). slice_cmp part_cmp a.0.parts b.0.parts) es
+entries_rise : (es : List (Name × Entry)) → AllByRecursion (λ (key : Name × Entry). key.0.namespace ≡ Spec) es
+    → T (is_sorted name_cmp es) → IsStrictlySortedBy (λ (a b : Name × Entry). slice_cmp part_cmp a.0.parts b.0.parts) es
 unfolding IsStrictlySortedBy
 entries_rise [] in_spec h = tt
 entries_rise (e ∷ es) in_spec h = (each es in_spec.1 (first _ _ h), entries_rise es in_spec.1 (second _ _ h))
   where
-    each : (fs : List (Name × Entry)) → AllByRecursion (λ (key : Name × Entry). key.0.namespace ≡ Spec) fs → T (below_all name_cmp e.0 fs) → AllByRecursion (λ f. slice_cmp part_cmp e.0.parts f.0.parts ≡ Less) fs
+    each : (fs : List (Name × Entry)) → AllByRecursion (λ (key : Name × Entry). key.0.namespace ≡ Spec) fs
+        → T (below_all name_cmp e.0 fs) → AllByRecursion (λ f. slice_cmp part_cmp e.0.parts f.0.parts ≡ Less) fs
     each [] there below = tt
     each (f ∷ fs) there below =
         (sym (ap₂ (λ m n. ordering_then (nat_cmp (rank m) (rank n)) (slice_cmp part_cmp e.0.parts f.0.parts)) in_spec.0 there.0) ∙ less _ (first _ _ below), each fs there.1 (second _ _ below))
 
-sorted_through : {A B : Type 0} (f : A → B) (c : B → B → Ordering) (xs : List A) → IsStrictlySortedBy c (map f xs) → IsStrictlySortedBy (λ x y. c (f x) (f y)) xs
+sorted_through : {A B : Type 0} (f : A → B) (c : B → B → Ordering) (xs : List A) → IsStrictlySortedBy c (map f xs)
+    → IsStrictlySortedBy (λ x y. c (f x) (f y)) xs
 unfolding IsStrictlySortedBy
 sorted_through f c [] h = tt
 sorted_through {A = A} f c (x ∷ xs) h = (each xs h.0, sorted_through f c xs h.1)
   where
-    each : (ys : List A) → AllByRecursion (λ y. c (f x) y ≡ Less) (map f ys) → AllByRecursion (λ y. c (f x) (f y) ≡ Less) ys
+    each : (ys : List A) → AllByRecursion (λ y. c (f x) y ≡ Less) (map f ys)
+        → AllByRecursion (λ y. c (f x) (f y) ≡ Less) ys
     each [] g = tt
     each (y ∷ ys) g = (g.0, each ys g.1)
 
-pub are_globs : (keys : KeyMap) (globs : List Glob) → AreInSpec keys → map seen globs ≡ filter (λ (key : Name × Entry). has_glob key.0.parts) (finite.entries keys) → AreGlobsOf keys globs
+pub are_globs : (keys : KeyMap) (globs : List Glob) → AreInSpec keys
+    → map seen globs ≡ filter (λ (key : Name × Entry). has_glob key.0.parts) (finite.entries keys)
+    → AreGlobsOf keys globs
 are_globs keys globs in_spec all = record {
   in_spec = in_spec;
   all = all;
@@ -257,7 +291,8 @@ told_hole : (name : Name) (b told : Bool) → Decides told (HasGlob name.parts) 
 told_hole name b told decides is = one_answer (has_glob name.parts) told (has_glob-Decides name.parts) decides ∙ is
 
 -- a key with a hole is added
-pub added_glob : (globs new : List Glob) (glob : Glob) (key : Name × Entry) (told : Bool) → Decides told (HasGlob key.0.parts) → told ≡ true → seen glob ≡ key → new ≡ globs ++ glob ∷ []
+pub added_glob : (globs new : List Glob) (glob : Glob) (key : Name × Entry) (told : Bool)
+    → Decides told (HasGlob key.0.parts) → told ≡ true → seen glob ≡ key → new ≡ globs ++ glob ∷ []
     → map seen new ≡ map seen globs ++ filter (λ (key : Name × Entry). has_glob key.0.parts) (key ∷ [])
 added_glob globs new glob key told decides is same made =
     ap (map seen) made
@@ -266,8 +301,10 @@ added_glob globs new glob key told decides is same made =
     ∙ ap (λ b. map seen globs ++ cond b (key ∷ []) []) (sym (told_hole key.0 true told decides is))
 
 -- one without a hole is not
-pub no_glob : (globs : List Glob) (name : Bor Name) (entry : Bor Held) (told : Bool) → Decides told (HasGlob name.now.parts) → told ≡ false
-    → map seen globs ≡ map seen globs ++ filter (λ (key : Name × Entry). has_glob key.0.parts) ((name.now, entry_of entry.now) ∷ [])
+pub no_glob : (globs : List Glob) (name : Bor Name) (entry : Bor Held) (told : Bool)
+    → Decides told (HasGlob name.now.parts) → told ≡ false
+    → map seen globs
+    ≡ map seen globs ++ filter (λ (key : Name × Entry). has_glob key.0.parts) ((name.now, entry_of entry.now) ∷ [])
 no_glob globs name entry told decides is =
     sym (append-nil (map seen globs))
     ∙ ap (λ b. map seen globs ++ cond b ((name.now, entry_of entry.now) ∷ []) []) (sym (told_hole name.now false told decides is))

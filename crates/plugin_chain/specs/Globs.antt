@@ -36,7 +36,8 @@ parts_of glob = glob.name.now.parts
 
 -- globs rise by the parts from a depth on
 abbrev pub IsRising : ℕ → List Glob → Type 0
-IsRising depth globs = IsStrictlySortedBy (λ a b. slice_cmp part_cmp (drop depth (parts_of a)) (drop depth (parts_of b))) globs
+IsRising depth globs =
+    IsStrictlySortedBy (λ a b. slice_cmp part_cmp (drop depth (parts_of a)) (drop depth (parts_of b))) globs
 
 -- the keys of a set whose names have holes, in order
 pub record AreGlobsOf (keys : KeyMap) (globs : List Glob) : Type 0 where
@@ -83,7 +84,8 @@ pub record AreAscending (first second third : Part) : Type 0 where
 
 -- the globs with one of three words at a depth, word by word
 pub record HaveWords (depth : ℕ) (one two three : Part) (globs first second third : List Glob) : Type 0 where
-  pub kept : (test : Glob → Bool) → ((glob : Glob) → test glob ≡ true → HasPart depth one glob ⊎ (HasPart depth two glob ⊎ HasPart depth three glob))
+  pub kept : (test : Glob → Bool)
+      → ((glob : Glob) → test glob ≡ true → HasPart depth one glob ⊎ (HasPart depth two glob ⊎ HasPart depth three glob))
       → filter test globs ≡ filter test first ++ (filter test second ++ filter test third)
   pub first_deeper : IsRising (depth + 1) first
   pub second_deeper : IsRising (depth + 1) second
@@ -91,7 +93,8 @@ pub record HaveWords (depth : ℕ) (one two three : Part) (globs first second th
 
 -- no pattern of a path with a part at a depth is lost
 pub record IsNarrowed (depth : ℕ) (part : Part) (globs first second third : List Glob) : Type 0 where
-  pub kept : (path : List Part) → slice_get path depth ≡ Some part → patterns_in path globs ≡ patterns_in path first ++ (patterns_in path second ++ patterns_in path third)
+  pub kept : (path : List Part) → slice_get path depth ≡ Some part
+      → patterns_in path globs ≡ patterns_in path first ++ (patterns_in path second ++ patterns_in path third)
   pub first_deeper : IsRising (depth + 1) first
   pub second_deeper : IsRising (depth + 1) second
   pub third_deeper : IsRising (depth + 1) third

@@ -8,25 +8,37 @@ use Rattle.model_rules.proofs.NumberOnce.{IsBare, IsNumber-digits}
 use Rattle.model_rules.proofs.RangeOnce.{HasNoMinus, HasNoMinus-at, IsFront, IsNumber-front, no_minus_inside, one_front_alone, two_parts_once}
 use Rattle.range_check.specs.Items.{IsAlone, IsBetween}
 
-number_from : (minus : Bool) (digits : List ℕ) (number : ℤ) → AreDigitsOf minus digits number → IsNumber (with_sign minus digits) number
+number_from : (minus : Bool) (digits : List ℕ) (number : ℤ) → AreDigitsOf minus digits number
+    → IsNumber (with_sign minus digits) number
 number_from minus digits number p = record { minus = minus; digits = digits; spelled = refl; number = p }
 
 -- without a further minus an item is one number
-no_two : (minus : Bool) (rest first last : List ℕ) → HasNoMinus rest → IsFront first → with_sign minus rest ≡ first ++ (45 ∷ last) → ⊥
+no_two : (minus : Bool) (rest first last : List ℕ) → HasNoMinus rest → IsFront first
+    → with_sign minus rest ≡ first ++ (45 ∷ last) → ⊥
 no_two true rest first last none p e =
     no_minus_inside p.rest last (subst HasNoMinus (ap (drop 1) (e ∙ ap (λ t. t ++ (45 ∷ last)) p.whole)) none)
 no_two false rest first last none p e = no_minus_inside first last (subst HasNoMinus e none)
 
-alone_item : (minus : Bool) (rest : List ℕ) (interval : Interval) → IsBare minus rest → HasNoMinus rest → IsItem (with_sign minus rest) interval → IsAlone minus rest interval
-alone_item minus rest interval bare none (Single l h) = record { low = IsNumber-digits minus rest interval.low bare l; high = IsNumber-digits minus rest interval.high bare h }
-alone_item minus rest interval bare none (Between first last e f g o) = absurd (no_two minus rest first last none (IsNumber-front first interval.low f) e)
+alone_item : (minus : Bool) (rest : List ℕ) (interval : Interval) → IsBare minus rest → HasNoMinus rest
+    → IsItem (with_sign minus rest) interval → IsAlone minus rest interval
+alone_item minus rest interval bare none (Single l h) =
+    record {
+      low = IsNumber-digits minus rest interval.low bare l;
+      high = IsNumber-digits minus rest interval.high bare h;
+    }
+alone_item minus rest interval bare none (Between first last e f g o) =
+    absurd (no_two minus rest first last none (IsNumber-front first interval.low f) e)
 
-one_number : (minus : Bool) (rest : List ℕ) (r : Option Interval) → IsBare minus rest → HasNoMinus rest → MatchOption r ((interval : Interval) → IsAlone minus rest interval → ⊥) (IsAlone minus rest) → MatchOption r ((interval : Interval) → IsItem (with_sign minus rest) interval → ⊥) (IsItem (with_sign minus rest))
+one_number : (minus : Bool) (rest : List ℕ) (r : Option Interval) → IsBare minus rest → HasNoMinus rest
+    → MatchOption r ((interval : Interval) → IsAlone minus rest interval → ⊥) (IsAlone minus rest)
+    → MatchOption r ((interval : Interval) → IsItem (with_sign minus rest) interval → ⊥) (IsItem (with_sign minus rest))
 one_number minus rest None bare none p = λ interval i. p interval (alone_item minus rest interval bare none i)
-one_number minus rest (Some interval) bare none p = Single (number_from minus rest interval.low p.low) (number_from minus rest interval.high p.high)
+one_number minus rest (Some interval) bare none p =
+    Single (number_from minus rest interval.low p.low) (number_from minus rest interval.high p.high)
 
 -- what stands before the further minus is a front
-bare_front : (minus : Bool) (first last : List ℕ) → IsBare minus (first ++ (45 ∷ last)) → HasNoMinus first → IsFront (with_sign minus first)
+bare_front : (minus : Bool) (first last : List ℕ) → IsBare minus (first ++ (45 ∷ last)) → HasNoMinus first
+    → IsFront (with_sign minus first)
 bare_front true first last bare none = record { first = 45; rest = first; whole = refl; none = none }
 bare_front false [] last bare none = absurd (bare refl last refl)
 bare_front false (c ∷ first) last bare none = record { first = c; rest = first; whole = refl; none = none.1 }
@@ -34,11 +46,13 @@ bare_front false (c ∷ first) last bare none = record { first = c; rest = first
 bare_part : (minus : Bool) (first last : List ℕ) → IsBare minus (first ++ (45 ∷ last)) → IsBare minus first
 bare_part minus first last bare = λ plain bytes e. bare plain (bytes ++ (45 ∷ last)) (ap (λ t. t ++ (45 ∷ last)) e)
 
-sign_first : (minus : Bool) (first last : List ℕ) → with_sign minus (first ++ (45 ∷ last)) ≡ with_sign minus first ++ (45 ∷ last)
+sign_first : (minus : Bool) (first last : List ℕ)
+    → with_sign minus (first ++ (45 ∷ last)) ≡ with_sign minus first ++ (45 ∷ last)
 sign_first true first last = refl
 sign_first false first last = refl
 
-between_item : (minus : Bool) (first last : List ℕ) (interval : Interval) → IsBare minus (first ++ (45 ∷ last)) → HasNoMinus first → IsItem (with_sign minus (first ++ (45 ∷ last))) interval → IsBetween minus first last interval
+between_item : (minus : Bool) (first last : List ℕ) (interval : Interval) → IsBare minus (first ++ (45 ∷ last))
+    → HasNoMinus first → IsItem (with_sign minus (first ++ (45 ∷ last))) interval → IsBetween minus first last interval
 between_item minus first last interval bare none (Single l h) =
     absurd (one_front_alone _ (with_sign minus first) last (IsNumber-front _ interval.low l) (bare_front minus first last bare none) (sign_first minus first last))
 between_item minus first last interval bare none (Between first' last' e f g o) =
@@ -49,25 +63,41 @@ between_item minus first last interval bare none (Between first' last' e f g o) 
       order = o;
     }
 
-two_numbers : (minus : Bool) (first last : List ℕ) (r : Option Interval) → IsBare minus (first ++ (45 ∷ last)) → HasNoMinus first → MatchOption r ((interval : Interval) → IsBetween minus first last interval → ⊥) (IsBetween minus first last) → MatchOption r ((interval : Interval) → IsItem (with_sign minus (first ++ (45 ∷ last))) interval → ⊥) (IsItem (with_sign minus (first ++ (45 ∷ last))))
-two_numbers minus first last None bare none p = λ interval i. p interval (between_item minus first last interval bare none i)
-two_numbers minus first last (Some interval) bare none p = Between (with_sign minus first) last (sign_first minus first last) (number_from minus first interval.low p.low) p.high p.order
+two_numbers : (minus : Bool) (first last : List ℕ) (r : Option Interval) → IsBare minus (first ++ (45 ∷ last))
+    → HasNoMinus first
+    → MatchOption r ((interval : Interval) → IsBetween minus first last interval → ⊥) (IsBetween minus first last)
+    → MatchOption r ((interval : Interval) → IsItem (with_sign minus (first ++ (45 ∷ last))) interval → ⊥) (IsItem (with_sign minus (first ++ (45 ∷ last))))
+two_numbers minus first last None bare none p =
+    λ interval i. p interval (between_item minus first last interval bare none i)
+two_numbers minus first last (Some interval) bare none p =
+    Between (with_sign minus first) last (sign_first minus first last) (number_from minus first interval.low p.low) p.high p.order
 
 -- the clause of `split_once` at a minus
 abbrev IsCut : List ℕ → Option (Bor (List ℕ) × Bor (List ℕ)) → Type 0
-IsCut rest cut = MatchOption cut ((i : ℕ) → i < length rest → get_or rest i 0 ≢ 45) (λ x. (rest ≡ x.0.now ++ (45 ∷ x.1.now)) × ((i : ℕ) → i < length x.0.now → get_or x.0.now i 0 ≢ 45))
+IsCut rest cut =
+    MatchOption cut ((i : ℕ) → i < length rest → get_or rest i 0 ≢ 45) (λ x. (rest ≡ x.0.now ++ (45 ∷ x.1.now)) × ((i : ℕ) → i < length x.0.now → get_or x.0.now i 0 ≢ 45))
 
-pub uncut_item : (minus : Bool) (rest : List ℕ) (cut : Option (Bor (List ℕ) × Bor (List ℕ))) (r : Option Interval) → IsBare minus rest → IsCut rest cut → cut ≡ None → MatchOption r ((interval : Interval) → IsAlone minus rest interval → ⊥) (IsAlone minus rest) → MatchOption r ((interval : Interval) → IsItem (with_sign minus rest) interval → ⊥) (IsItem (with_sign minus rest))
-uncut_item minus rest cut r bare is none p = one_number minus rest r bare (HasNoMinus-at rest (subst (IsCut rest) none is)) p
+pub uncut_item : (minus : Bool) (rest : List ℕ) (cut : Option (Bor (List ℕ) × Bor (List ℕ))) (r : Option Interval)
+    → IsBare minus rest → IsCut rest cut → cut ≡ None
+    → MatchOption r ((interval : Interval) → IsAlone minus rest interval → ⊥) (IsAlone minus rest)
+    → MatchOption r ((interval : Interval) → IsItem (with_sign minus rest) interval → ⊥) (IsItem (with_sign minus rest))
+uncut_item minus rest cut r bare is none p =
+    one_number minus rest r bare (HasNoMinus-at rest (subst (IsCut rest) none is)) p
 
-pub cut_item : (minus : Bool) (rest : List ℕ) (cut : Option (Bor (List ℕ) × Bor (List ℕ))) (x : Bor (List ℕ) × Bor (List ℕ)) (r : Option Interval) → IsBare minus rest → IsCut rest cut → cut ≡ Some x → MatchOption r ((interval : Interval) → IsBetween minus x.0.now x.1.now interval → ⊥) (IsBetween minus x.0.now x.1.now) → MatchOption r ((interval : Interval) → IsItem (with_sign minus rest) interval → ⊥) (IsItem (with_sign minus rest))
+pub cut_item : (minus : Bool) (rest : List ℕ) (cut : Option (Bor (List ℕ) × Bor (List ℕ)))
+    (x : Bor (List ℕ) × Bor (List ℕ)) (r : Option Interval) → IsBare minus rest → IsCut rest cut → cut ≡ Some x
+    → MatchOption r ((interval : Interval) → IsBetween minus x.0.now x.1.now interval → ⊥) (IsBetween minus x.0.now x.1.now)
+    → MatchOption r ((interval : Interval) → IsItem (with_sign minus rest) interval → ⊥) (IsItem (with_sign minus rest))
 cut_item minus rest cut x r bare is some p =
     let here : (rest ≡ x.0.now ++ (45 ∷ x.1.now)) × ((i : ℕ) → i < length x.0.now → get_or x.0.now i 0 ≢ 45) = subst (IsCut rest) some is in
     let whole = two_numbers minus x.0.now x.1.now r (subst (IsBare minus) here.0 bare) (HasNoMinus-at x.0.now here.1) p in
     subst (λ t. MatchOption r ((interval : Interval) → IsItem (with_sign minus t) interval → ⊥) (IsItem (with_sign minus t))) (sym here.0) whole
 
 -- an item from which a minus was stripped is read behind it
-pub stripped_item : (item : List ℕ) (p : Option (Bor (List ℕ))) (x : Bor (List ℕ)) (r : Option Interval) → MatchOption p ((rest : List ℕ) → item ≢ 45 ∷ rest) (λ y. item ≡ 45 ∷ y.now) → p ≡ Some x → MatchOption r ((interval : Interval) → IsItem (45 ∷ x.now) interval → ⊥) (IsItem (45 ∷ x.now)) → MatchOption r ((interval : Interval) → IsItem item interval → ⊥) (IsItem item)
+pub stripped_item : (item : List ℕ) (p : Option (Bor (List ℕ))) (x : Bor (List ℕ)) (r : Option Interval)
+    → MatchOption p ((rest : List ℕ) → item ≢ 45 ∷ rest) (λ y. item ≡ 45 ∷ y.now) → p ≡ Some x
+    → MatchOption r ((interval : Interval) → IsItem (45 ∷ x.now) interval → ⊥) (IsItem (45 ∷ x.now))
+    → MatchOption r ((interval : Interval) → IsItem item interval → ⊥) (IsItem item)
 stripped_item item p x r is some h =
     let here : item ≡ 45 ∷ x.now = subst (λ o. MatchOption o ((rest : List ℕ) → item ≢ 45 ∷ rest) (λ y. item ≡ 45 ∷ y.now)) some is in
     subst (λ t. MatchOption r ((interval : Interval) → IsItem t interval → ⊥) (IsItem t)) (sym here) h

@@ -28,4 +28,5 @@ pub data Refutes (MayRefuse : Type 0) (pattern value : List ℕ) (broken : Broke
 
 -- no pattern is handed to a matcher: there is none, or it is too long
 abbrev pub HandsNothingOn : Meta → Type 0
-HandsNothingOn meta = (pattern : List ℕ) → map.get meta (codes "check/validation") ≡ Some pattern → longest_pattern < length pattern
+HandsNothingOn meta =
+    (pattern : List ℕ) → map.get meta (codes "check/validation") ≡ Some pattern → longest_pattern < length pattern

@@ -12,7 +12,8 @@ IsInGrammar pattern = IsSomeAnd (read default_config (chars pattern)) (λ (re, _
 
 -- what the reader reads matches somewhere in a value
 unfoldable pub matches_in : List ℕ → List ℕ → Bool
-matches_in pattern value = option_map_or (λ (re, _). is_some (find_str re.value value 0)) (read default_config (chars pattern)) false
+matches_in pattern value =
+    option_map_or (λ (re, _). is_some (find_str re.value value 0)) (read default_config (chars pattern)) false
 
 -- a pattern matches somewhere in a value
 pub record Matches (pattern value : List ℕ) : Type 0 where

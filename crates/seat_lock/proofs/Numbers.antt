@@ -15,11 +15,13 @@ module _ (E : Type 0) where
 
   pub times-below : (number low count : ℕ) → number ≤ low → times number (numbers_from {E = E} low count) ≡ 0
   times-below number low zero le = refl
-  times-below number low (suc count) le = let first = one-no (suc low) number (λ same. omega arith) in let rest = times-below number (suc low) count (omega arith) in omega arith
+  times-below number low (suc count) le =
+      let first = one-no (suc low) number (λ same. omega arith) in let rest = times-below number (suc low) count (omega arith) in omega arith
 
   pub times-above : (number low count : ℕ) → low + count < number → times number (numbers_from {E = E} low count) ≡ 0
   times-above number low zero lt = refl
-  times-above number low (suc count) lt = let first = one-no (suc low) number (λ same. omega arith) in let rest = times-above number (suc low) count (omega arith) in omega arith
+  times-above number low (suc count) lt =
+      let first = one-no (suc low) number (λ same. omega arith) in let rest = times-above number (suc low) count (omega arith) in omega arith
 
   pub times-single : (number low count : ℕ) → times number (numbers_from {E = E} low count) ≤ 1
   times-single number low zero = omega arith

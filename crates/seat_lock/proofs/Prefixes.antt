@@ -33,8 +33,18 @@ module _ {E : Type 0} where
   longer-begins xs ys log p q = by_length (nat_lt (length xs) (length ys)) refl
     where
       by_length : (b : Bool) → nat_lt (length xs) (length ys) ≡ b → IsLonger xs ys log (cond b ys xs)
-      by_length true is = record { first = prefix-shorter xs ys log p q (let lt = ltb-true (length xs) (length ys) is in omega arith); second = prefix-self ys; whole = q }
-      by_length false is = record { first = prefix-self xs; second = prefix-shorter ys xs log q p (ltb-false (length xs) (length ys) is); whole = p }
+      by_length true is =
+          record {
+            first = prefix-shorter xs ys log p q (let lt = ltb-true (length xs) (length ys) is in omega arith);
+            second = prefix-self ys;
+            whole = q;
+          }
+      by_length false is =
+          record {
+            first = prefix-self xs;
+            second = prefix-shorter ys xs log q p (ltb-false (length xs) (length ys) is);
+            whole = p;
+          }
 
   pub prefix-length : (xs ys : List E) → IsPrefix xs ys → length xs ≤ length ys
   prefix-length xs ys p = let long = ap length p.1 in let sum = length-append xs p.0 in omega arith

@@ -29,7 +29,8 @@ module _ {E V : Type 0} (maker : E → ℕ) (stands : V → List E → Type 0) (
 
   -- the ticket that is drawn next is nobody's yet
   fresh : (s : Board) (k : Rule s) → total (λ (u : View E). tickets_at k.drawn u.ticket) s.views ≡ 0
-  fresh s k = total-none (λ (u : View E). tickets_at k.drawn u.ticket) s.views (λ j u e. by_ticket u.ticket (k.each j u e).ticket)
+  fresh s k =
+      total-none (λ (u : View E). tickets_at k.drawn u.ticket) s.views (λ j u e. by_ticket u.ticket (k.each j u e).ticket)
     where
       by_ticket : (ticket : Option ℕ) → IsOut k.turn k.drawn ticket → tickets_at k.drawn ticket ≡ 0
       by_ticket None out = refl
@@ -75,10 +76,12 @@ module _ {E V : Type 0} (maker : E → ℕ) (stands : V → List E → Type 0) (
           by_test false = omega arith
 
   -- a word that is read and stays
-  words-same : (s : Board) (k : Rule s) → slice_set s.words 0 (slice_index s.words 0) ≡ k.turn % 2 ^ 64 ∷ k.drawn % 2 ^ 64 ∷ []
+  words-same : (s : Board) (k : Rule s)
+      → slice_set s.words 0 (slice_index s.words 0) ≡ k.turn % 2 ^ 64 ∷ k.drawn % 2 ^ 64 ∷ []
   words-same s k = words-turn s.words _ _ (λ n. n) k.words
 
-  pub compares : (id : ℕ) (me : Me (Option V) (View E)) (slots : ℕ) → Allows Rule slots id me 0 (λ n. n) (Compares maker (step slots 0 0 0 none) me)
+  pub compares : (id : ℕ) (me : Me (Option V) (View E)) (slots : ℕ)
+      → Allows Rule slots id me 0 (λ n. n) (Compares maker (step slots 0 0 0 none) me)
   compares id me slots s k deep at below =
       let v = me.0 in
       let w = compared_view v in
@@ -101,8 +104,10 @@ module _ {E V : Type 0} (maker : E → ℕ) (stands : V → List E → Type 0) (
       )
 
   -- the seat's turn has come: it takes the value
-  takes-turn : (id : ℕ) (me : Me (Option V) (View E)) (ticket : ℕ) → me.0.ticket ≡ Some ticket → me.0.holds ≡ false → (s : Board) (k : Rule s) → get_elem? s.views id ≡ some me.0 → k.turn ≡ ticket
-      → (w : View E) × (a : Act (Option V)) × Valid s.homes me.1 a × Rule (stepped s 0 (slice_index s.words 0) id me.1 w a) × Enters maker stands me (w, carried_after me.1 a)
+  takes-turn : (id : ℕ) (me : Me (Option V) (View E)) (ticket : ℕ) → me.0.ticket ≡ Some ticket → me.0.holds ≡ false
+      → (s : Board) (k : Rule s) → get_elem? s.views id ≡ some me.0 → k.turn ≡ ticket
+      → (w : View E) × (a : Act (Option V)) × Valid s.homes me.1 a
+      × Rule (stepped s 0 (slice_index s.words 0) id me.1 w a) × Enters maker stands me (w, carried_after me.1 a)
   takes-turn id me ticket mine free s k at same =
       let v = me.0 in
       let w = holder_view k.log v in
@@ -121,7 +126,14 @@ module _ {E V : Type 0} (maker : E → ℕ) (stands : V → List E → Type 0) (
           numbers = numbers-stay seats s.views id v w at refl (λ n. refl) k.numbers;
           tickets_out = tickets-stay k.turn k.drawn s.views id v w at refl k.tickets_out;
           each = each-set (Fits maker k.turn k.drawn k.log) s.views id w
-              record { ticket = fits.ticket; few = fits.few; seen = prefix-self k.log; beside = fits.beside; own = fits.own; holder = (λ holds. (turn, refl)) }
+              record {
+                ticket = fits.ticket;
+                few = fits.few;
+                seen = prefix-self k.log;
+                beside = fits.beside;
+                own = fits.own;
+                holder = (λ holds. (turn, refl));
+              }
               (λ j u other e. k.each j u e);
           first = k.first;
           others = k.others;
@@ -131,7 +143,8 @@ module _ {E V : Type 0} (maker : E → ℕ) (stands : V → List E → Type 0) (
       )
 
   -- two tickets that are out and equal modulo 2^64 are one
-  turn-is : (id : ℕ) (v : View E) (ticket : ℕ) → v.ticket ≡ Some ticket → (s : Board) (k : Rule s) → get_elem? s.views id ≡ some v → slice_index s.words 0 ≡ ticket % 2 ^ 64 → k.turn ≡ ticket
+  turn-is : (id : ℕ) (v : View E) (ticket : ℕ) → v.ticket ≡ Some ticket → (s : Board) (k : Rule s)
+      → get_elem? s.views id ≡ some v → slice_index s.words 0 ≡ ticket % 2 ^ 64 → k.turn ≡ ticket
   turn-is id v ticket mine s k at found =
       let out : IsOut k.turn k.drawn (Some ticket) = subst (IsOut k.turn k.drawn) mine (k.each id v at).ticket in
       let most = total-below (λ (u : View E). tickets u.ticket) (λ (u : View E). length u.mine) s.views (λ j u e. (k.each j u e).few) in
@@ -146,14 +159,17 @@ module _ {E V : Type 0} (maker : E → ℕ) (stands : V → List E → Type 0) (
       → Allows Rule slots id me 0 (λ n. n) (Looks maker stands (step slots 0 0 0 none) me)
   looks id me slots ticket mine free s k deep at below = by_test (slice_index s.words 0 == ticket % 2 ^ 64) refl
     where
-      told : (b : Bool) (after : Me (Option V) (View E)) → (slice_index s.words 0 == ticket % 2 ^ 64) ≡ b → MatchBool b (Enters maker stands me after) (after ≡ me)
+      told : (b : Bool) (after : Me (Option V) (View E)) → (slice_index s.words 0 == ticket % 2 ^ 64) ≡ b
+          → MatchBool b (Enters maker stands me after) (after ≡ me)
           → Looks maker stands (step slots 0 0 0 none) me (slice_index s.words 0) after
       told b after is fact t e =
           let same : ticket ≡ t = ap (λ o. unwrap_or o 0) (sym mine ∙ e) in
           subst (λ n. MatchBool (slice_index s.words 0 == n % 2 ^ 64) (Enters maker stands me after) (after ≡ me)) same (subst (λ c. MatchBool c (Enters maker stands me after) (after ≡ me)) (sym is) fact)
 
       by_test : (b : Bool) → (slice_index s.words 0 == ticket % 2 ^ 64) ≡ b
-          → (w : View E) × (a : Act (Option V)) × Valid s.homes me.1 a × Rule (stepped s 0 (slice_index s.words 0) id me.1 w a) × Looks maker stands (step slots 0 0 0 none) me (slice_index s.words 0) (w, carried_after me.1 a)
+          → (w : View E) × (a : Act (Option V)) × Valid s.homes me.1 a
+          × Rule (stepped s 0 (slice_index s.words 0) id me.1 w a)
+          × Looks maker stands (step slots 0 0 0 none) me (slice_index s.words 0) (w, carried_after me.1 a)
       by_test true is =
           let went = takes-turn id me ticket mine free s k at (turn-is id me.0 ticket mine s k at (eqb-true (slice_index s.words 0) (ticket % 2 ^ 64) is)) in
           (went.0, went.1, went.2, went.3, told true (went.0, carried_after me.1 went.1) is went.4)
@@ -166,7 +182,8 @@ module _ {E V : Type 0} (maker : E → ℕ) (stands : V → List E → Type 0) (
       )
 
   -- no number of another view is a number of this one
-  apart : (s : Board) (k : Rule s) (id : ℕ) (v : View E) (j : ℕ) (u : View E) → get_elem? s.views id ≡ some v → get_elem? s.views j ≡ some u → j ≢ id → (number : ℕ) → 0 < times number u.mine → times number v.mine ≡ 0
+  apart : (s : Board) (k : Rule s) (id : ℕ) (v : View E) (j : ℕ) (u : View E) → get_elem? s.views id ≡ some v
+      → get_elem? s.views j ≡ some u → j ≢ id → (number : ℕ) → 0 < times number u.mine → times number v.mine ≡ 0
   apart s k id v j u at there other number more =
       let two = total-two (λ (x : View E). times number x.mine) s.views j id u v other there at in let most = k.numbers.single number in omega arith
 
@@ -178,7 +195,8 @@ module _ {E V : Type 0} (maker : E → ℕ) (stands : V → List E → Type 0) (
     mine_is : (v.ticket ≡ Some k.turn) × (v.seen ≡ k.log)
     mine_is = (k.each id v at).holder holds
 
-    one_out : total (λ (u : View E). tickets u.ticket) (set s.views id after) + 1 ≡ total (λ (u : View E). tickets u.ticket) s.views
+    one_out : total (λ (u : View E). tickets u.ticket) (set s.views id after) + 1
+        ≡ total (λ (u : View E). tickets u.ticket) s.views
     one_out =
         let moved = total-set (λ (u : View E). tickets u.ticket) s.views id v after at in
         let was : tickets v.ticket ≡ 1 = ap tickets mine_is.0 in omega arith
@@ -202,11 +220,16 @@ module _ {E V : Type 0} (maker : E → ℕ) (stands : V → List E → Type 0) (
         let theirs : tickets_at k.turn u.ticket ≡ 1 = ap (tickets_at k.turn) ((k.each j u e).holder has).0 ∙ ticket-here k.turn in
         let most = k.tickets_out.apart k.turn in absurd (omega arith)
 
-    gains-nothing : (number : ℕ) → total (λ (u : View E). times number u.mine) s.views ≡ 0 → made_by maker number added ≡ []
-    gains-nothing number nobody = gains number (let one = total-one (λ (u : View E). times number u.mine) s.views id v at in omega arith)
+    gains-nothing : (number : ℕ) → total (λ (u : View E). times number u.mine) s.views ≡ 0
+        → made_by maker number added ≡ []
+    gains-nothing number nobody =
+        gains number (let one = total-one (λ (u : View E). times number u.mine) s.views id v at in omega arith)
 
-    log-next : (number : ℕ) (found : List E) → made_by maker number k.log ≡ found → total (λ (u : View E). times number u.mine) s.views ≡ 0 → made_by maker number (k.log ++ added) ≡ found
-    log-next number found was nobody = made-append maker number k.log added ∙ (ap (λ l. made_by maker number k.log ++ l) (gains-nothing number nobody) ∙ (append-nil (made_by maker number k.log) ∙ was))
+    log-next : (number : ℕ) (found : List E) → made_by maker number k.log ≡ found
+        → total (λ (u : View E). times number u.mine) s.views ≡ 0 → made_by maker number (k.log ++ added) ≡ found
+    log-next number found was nobody =
+        made-append maker number k.log added
+        ∙ (ap (λ l. made_by maker number k.log ++ l) (gains-nothing number nobody) ∙ (append-nil (made_by maker number k.log) ∙ was))
 
     fits-next : Fits maker (k.turn + 1) k.drawn (k.log ++ added) after
     fits-next = let was = k.each id v at in record {
@@ -218,7 +241,8 @@ module _ {E V : Type 0} (maker : E → ℕ) (stands : V → List E → Type 0) (
       holder = (λ held. absurd (true≢false (sym held)));
     }
 
-    others-next : (j : ℕ) (u : View E) → j ≢ id → get_elem? s.views j ≡ some u → Fits maker (k.turn + 1) k.drawn (k.log ++ added) u
+    others-next : (j : ℕ) (u : View E) → j ≢ id → get_elem? s.views j ≡ some u
+        → Fits maker (k.turn + 1) k.drawn (k.log ++ added) u
     others-next j u other e = let was = k.each j u e in record {
       ticket = out-next k.turn k.drawn u.ticket (other-ticket j u other e) was.ticket;
       few = was.few;
@@ -239,7 +263,9 @@ module _ {E V : Type 0} (maker : E → ℕ) (stands : V → List E → Type 0) (
         (λ out. out)
         k.slot
 
-    ended-keeps : (value : V) → stands value (v.seen ++ added) → (words : List ℕ) (homes : List (mathlib.Core.Option.Option (Option V))) → words ≡ (k.turn + 1) % 2 ^ 64 ∷ k.drawn % 2 ^ 64 ∷ [] → homes ≡ some (Some value) ∷ []
+    ended-keeps : (value : V) → stands value (v.seen ++ added)
+        → (words : List ℕ) (homes : List (mathlib.Core.Option.Option (Option V)))
+        → words ≡ (k.turn + 1) % 2 ^ 64 ∷ k.drawn % 2 ^ 64 ∷ [] → homes ≡ some (Some value) ∷ []
         → Rule record { words = words; homes = homes; views = set s.views id after }
     ended-keeps value story words homes are back = record {
       turn = k.turn + 1;
@@ -264,8 +290,10 @@ module _ {E V : Type 0} (maker : E → ℕ) (stands : V → List E → Type 0) (
   hand_or value [] = value
   hand_or value (x ∷ xs) = unwrap_or x.1 value
 
-  pub ends : (more : V → List E) (id : ℕ) (me : Me (Option V) (View E)) (slots : ℕ) (value : V) → me.0.holds ≡ true → me.1 ≡ (0, Some value) ∷ [] → stands value (me.0.seen ++ more value)
-      → CanGain maker (more value) me.0.mine → Allows Rule slots id me 0 (λ n. (n + 1) % 2 ^ 64) (Ends maker more (step slots 0 1 0 none) me)
+  pub ends : (more : V → List E) (id : ℕ) (me : Me (Option V) (View E)) (slots : ℕ) (value : V) → me.0.holds ≡ true
+      → me.1 ≡ (0, Some value) ∷ [] → stands value (me.0.seen ++ more value)
+      → CanGain maker (more value) me.0.mine
+      → Allows Rule slots id me 0 (λ n. (n + 1) % 2 ^ 64) (Ends maker more (step slots 0 1 0 none) me)
   unfolding hand_or
   ends more id me slots value holds hand story gains s k deep at below = (
     ended_view maker (more value) me.0,
@@ -279,8 +307,10 @@ module _ {E V : Type 0} (maker : E → ℕ) (stands : V → List E → Type 0) (
   )
 
   -- the same where the value was put into the slot just before
-  pub ends-back : (more : V → List E) (id : ℕ) (before me : Me (Option V) (View E)) (slots : ℕ) (value : V) → me ≡ (before.0, (0, Some value) ∷ rest before.1) → before.0.holds ≡ true → before.1 ≡ (0, None) ∷ []
-      → stands value (before.0.seen ++ more value) → CanGain maker (more value) before.0.mine → Allows Rule slots id me 0 (λ n. (n + 1) % 2 ^ 64) (Ends maker more (step slots 0 1 0 none) me)
+  pub ends-back : (more : V → List E) (id : ℕ) (before me : Me (Option V) (View E)) (slots : ℕ) (value : V)
+      → me ≡ (before.0, (0, Some value) ∷ rest before.1) → before.0.holds ≡ true → before.1 ≡ (0, None) ∷ []
+      → stands value (before.0.seen ++ more value) → CanGain maker (more value) before.0.mine
+      → Allows Rule slots id me 0 (λ n. (n + 1) % 2 ^ 64) (Ends maker more (step slots 0 1 0 none) me)
   ends-back more id before me slots value is holds hand story gains =
       subst (λ (m : Me (Option V) (View E)). Allows Rule slots id m 0 (λ n. (n + 1) % 2 ^ 64) (Ends maker more (step slots 0 1 0 none) m)) (sym is)
       (ends more id (before.0, (0, Some value) ∷ rest before.1) slots value holds (ap (λ l. (0, Some value) ∷ rest l) hand) story gains)
@@ -289,7 +319,8 @@ module _ {E V : Type 0} (maker : E → ℕ) (stands : V → List E → Type 0) (
   total-last f views w = let sum = total-append f views (w ∷ []) in omega arith
 
   -- a seat outside of a turn gives its first numbers to a new one
-  pub cuts : (count id : ℕ) (v : View E) → v.ticket ≡ None → v.holds ≡ false → Splits Rule id v (rest_view count v) (dealt_view count v)
+  pub cuts : (count id : ℕ) (v : View E) → v.ticket ≡ None → v.holds ≡ false
+      → Splits Rule id v (rest_view count v) (dealt_view count v)
   cuts count id v without free s k at =
       let l = rest_view count v in
       let r = dealt_view count v in
@@ -313,7 +344,14 @@ module _ {E V : Type 0} (maker : E → ℕ) (stands : V → List E → Type 0) (
           apart = (λ t. let moved = total-set (λ (u : View E). tickets_at t u.ticket) s.views id v l at in let last = total-last (λ (u : View E). tickets_at t u.ticket) (set s.views id l) r in let was = k.tickets_out.apart t in omega arith);
         };
         each = each-snoc (Fits maker k.turn k.drawn k.log) (set s.views id l) r
-            record { ticket = tt; few = (omega arith); seen = fits.seen; beside = prefix-none k.log; own = owns-take maker k.log count v.mine fits.own; holder = (λ held. absurd (true≢false (sym held))) }
+            record {
+              ticket = tt;
+              few = (omega arith);
+              seen = fits.seen;
+              beside = prefix-none k.log;
+              own = owns-take maker k.log count v.mine fits.own;
+              holder = (λ held. absurd (true≢false (sym held)));
+            }
             (each-set (Fits maker k.turn k.drawn k.log) s.views id l
             record {
               ticket = fits.ticket;
@@ -332,7 +370,8 @@ module _ {E V : Type 0} (maker : E → ℕ) (stands : V → List E → Type 0) (
       }
 
   -- a seat takes in another that is outside of a turn
-  pub joins : (id : ℕ) (v : View E) (other : ℕ) (w : View E) → w.ticket ≡ None → w.holds ≡ false → Joins Rule id v other w (joint_view v w) empty_view
+  pub joins : (id : ℕ) (v : View E) (other : ℕ) (w : View E) → w.ticket ≡ None → w.holds ≡ false
+      → Joins Rule id v other w (joint_view v w) empty_view
   joins id v other w without free s k at differs there =
       let both = joint_view v w in
       let middle = set s.views id both in
@@ -359,7 +398,14 @@ module _ {E V : Type 0} (maker : E → ℕ) (stands : V → List E → Type 0) (
               let none_there : tickets_at t w.ticket ≡ 0 = ap (tickets_at t) without in let was = k.tickets_out.apart t in omega arith);
         };
         each = each-set (Fits maker k.turn k.drawn k.log) middle other empty_view
-            record { ticket = tt; few = (omega arith); seen = prefix-none k.log; beside = prefix-none k.log; own = tt; holder = (λ held. absurd (true≢false (sym held))) }
+            record {
+              ticket = tt;
+              few = (omega arith);
+              seen = prefix-none k.log;
+              beside = prefix-none k.log;
+              own = tt;
+              holder = (λ held. absurd (true≢false (sym held)));
+            }
             (λ j u apart_from e. each-set (Fits maker k.turn k.drawn k.log) s.views id both
             record {
               ticket = fits.ticket;
@@ -379,7 +425,8 @@ module _ {E V : Type 0} (maker : E → ℕ) (stands : V → List E → Type 0) (
       }
 
   -- a new seat that knows and has nothing
-  pub comes : (first : View E) (slots : ℕ) → Arrivals Rule slots 0 (λ found after. Comes {V = V} (step slots 0 0 0 none) (first, []) found (after, []))
+  pub comes : (first : View E) (slots : ℕ)
+      → Arrivals Rule slots 0 (λ found after. Comes {V = V} (step slots 0 0 0 none) (first, []) found (after, []))
   comes first slots s k deep below = (
     empty_view,
     record {
@@ -398,7 +445,14 @@ module _ {E V : Type 0} (maker : E → ℕ) (stands : V → List E → Type 0) (
         apart = (λ t. let last = total-last (λ (u : View E). tickets_at t u.ticket) s.views empty_view in let was = k.tickets_out.apart t in omega arith);
       };
       each = each-snoc (Fits maker k.turn k.drawn k.log) s.views empty_view
-          record { ticket = tt; few = (omega arith); seen = prefix-none k.log; beside = prefix-none k.log; own = tt; holder = (λ held. absurd (true≢false (sym held))) }
+          record {
+            ticket = tt;
+            few = (omega arith);
+            seen = prefix-none k.log;
+            beside = prefix-none k.log;
+            own = tt;
+            holder = (λ held. absurd (true≢false (sym held)));
+          }
           k.each;
       first = k.first;
       others = k.others;
@@ -408,7 +462,8 @@ module _ {E V : Type 0} (maker : E → ℕ) (stands : V → List E → Type 0) (
   )
 
   -- the table of a new lock
-  pub opens : (value : V) → HasNoMaker maker start → stands value start → seats < 2 ^ 64 → Rule (opening (0 ∷ 0 ∷ []) (Some value ∷ []) (first_view start seats))
+  pub opens : (value : V) → HasNoMaker maker start → stands value start → seats < 2 ^ 64
+      → Rule (opening (0 ∷ 0 ∷ []) (Some value ∷ []) (first_view start seats))
   opens value nobody story few = record {
     turn = 0;
     drawn = 0;
@@ -429,12 +484,22 @@ module _ {E V : Type 0} (maker : E → ℕ) (stands : V → List E → Type 0) (
     where
       only : (j : ℕ) (v : View E) → get_elem? (first_view start seats ∷ []) j ≡ some v → Fits maker 0 0 start v
       only zero v e = subst (Fits maker 0 0 start) (some-injective (first_view start seats) v e)
-          record { ticket = tt; few = (omega arith); seen = prefix-self start; beside = prefix-none start; own = owns-numbers maker start 0 seats nobody; holder = (λ held. absurd (true≢false (sym held))) }
+          record {
+            ticket = tt;
+            few = (omega arith);
+            seen = prefix-self start;
+            beside = prefix-none start;
+            own = owns-numbers maker start 0 seats nobody;
+            holder = (λ held. absurd (true≢false (sym held)));
+          }
       only (suc j) v e = absurd (some-ne-none v (sym e))
 
   -- what is left where a seat with all numbers ends the table
-  pub shuts : (s : Board) (k : Rule s) (id : ℕ) (v : View E) → get_elem? s.views id ≡ some v → v.holds ≡ false → length v.mine ≡ seats
-      → (xs : List (Option V)) → ((j : ℕ) (y : Option V) → get_elem? s.homes j ≡ some (some y) → get_elem? xs j ≡ some y) → (found : Option V) → get_elem? xs 0 ≡ some found
+  pub shuts : (s : Board) (k : Rule s) (id : ℕ) (v : View E) → get_elem? s.views id ≡ some v → v.holds ≡ false
+      → length v.mine ≡ seats
+      → (xs : List (Option V))
+      → ((j : ℕ) (y : Option V) → get_elem? s.homes j ≡ some (some y) → get_elem? xs j ≡ some y) → (found : Option V)
+      → get_elem? xs 0 ≡ some found
       → (value : V) × (found ≡ Some value) × IsShut maker stands start seats v value
   shuts s k id v at free all xs deep found e =
       let home = closing maker stands start seats s k id v at free all in
@@ -445,13 +510,18 @@ module _ {E V : Type 0} (maker : E → ℕ) (stands : V → List E → Type 0) (
       )
 
 -- the same, with the value as the key of the table shows it
-pub opens-at : {E V : Type 0} (maker : E → ℕ) (stands : V → List E → Type 0) (first : V → List E) (seats : ℕ) (value shown : V) (slots : List (Option V)) → shown ≡ value → slots ≡ Some value ∷ []
-    → HasNoMaker maker (first value) → stands value (first value) → seats < 2 ^ 64 → Kept maker stands (first shown) seats (opening (0 ∷ 0 ∷ []) slots (first_view (first shown) seats))
+pub opens-at : {E V : Type 0} (maker : E → ℕ) (stands : V → List E → Type 0) (first : V → List E) (seats : ℕ)
+    (value shown : V) (slots : List (Option V)) → shown ≡ value → slots ≡ Some value ∷ []
+    → HasNoMaker maker (first value) → stands value (first value) → seats < 2 ^ 64
+    → Kept maker stands (first shown) seats (opening (0 ∷ 0 ∷ []) slots (first_view (first shown) seats))
 opens-at maker stands first seats value shown slots same are nobody story few =
     subst (λ xs. Kept maker stands (first shown) seats (opening (0 ∷ 0 ∷ []) xs (first_view (first shown) seats))) (sym are)
     (subst (λ v. Kept maker stands (first v) seats (opening (0 ∷ 0 ∷ []) (Some value ∷ []) (first_view (first v) seats))) (sym same) (opens maker stands (first value) seats value nobody story few))
 
 -- the same for the value that was found
-pub shuts-as : {E V : Type 0} (maker : E → ℕ) (stands : V → List E → Type 0) (start : List E) (seats : ℕ) (v : View E) (found : Option V) (value : V) → found ≡ Some value
-    → (other : V) × (found ≡ Some other) × IsShut maker stands start seats v other → IsShut maker stands start seats v value
-shuts-as maker stands start seats v found value is shut = subst (IsShut maker stands start seats v) (ap (λ o. unwrap_or o value) (sym shut.1 ∙ is)) shut.2
+pub shuts-as : {E V : Type 0} (maker : E → ℕ) (stands : V → List E → Type 0) (start : List E) (seats : ℕ) (v : View E)
+    (found : Option V) (value : V) → found ≡ Some value
+    → (other : V) × (found ≡ Some other) × IsShut maker stands start seats v other
+    → IsShut maker stands start seats v value
+shuts-as maker stands start seats v found value is shut =
+    subst (IsShut maker stands start seats v) (ap (λ o. unwrap_or o value) (sym shut.1 ∙ is)) shut.2

@@ -9,12 +9,14 @@ use Rattle.seat_lock.specs.Rule.{Owns, IsWithin}
 module _ {E V : Type 0} where
   -- a ticket was drawn, and the word found is its number
   abbrev pub Draws : Step (Option V) → Me (Option V) (View E) → ℕ → Me (Option V) (View E) → Type 0
-  Draws step me found after = (ticket : ℕ) × (found ≡ ticket % 2 ^ 64) × (after ≡ (with_ticket (Some ticket) me.0, me.1))
+  Draws step me found after =
+      (ticket : ℕ) × (found ≡ ticket % 2 ^ 64) × (after ≡ (with_ticket (Some ticket) me.0, me.1))
 
   -- what was seen and what was beside it begin one list, of which the longer is kept. It has no entries of the seat's
   -- numbers but those that they made
   abbrev pub Compares : (E → ℕ) → Step (Option V) → Me (Option V) (View E) → ℕ → Me (Option V) (View E) → Type 0
-  Compares maker step me found after = (after ≡ (compared_view me.0, me.1)) × IsPrefix me.0.seen after.0.seen × IsPrefix me.0.beside after.0.seen × IsWithin maker after.0.seen me.0.mine
+  Compares maker step me found after =
+      (after ≡ (compared_view me.0, me.1)) × IsPrefix me.0.seen after.0.seen × IsPrefix me.0.beside after.0.seen × IsWithin maker after.0.seen me.0.mine
 
   -- the seat is new, and knows nothing
   abbrev pub Comes : Step (Option V) → Me (Option V) (View E) → ℕ → Me (Option V) (View E) → Type 0
@@ -22,7 +24,8 @@ module _ {E V : Type 0} where
 
   -- the turn is over, and what the value gained is known
   abbrev pub Ends : (E → ℕ) → (V → List E) → Step (Option V) → Me (Option V) (View E) → ℕ → Me (Option V) (View E) → Type 0
-  Ends maker more step me found after = (value : V) → me.1 ≡ (0, Some value) ∷ [] → after ≡ (ended_view maker (more value) me.0, [])
+  Ends maker more step me found after =
+      (value : V) → me.1 ≡ (0, Some value) ∷ [] → after ≡ (ended_view maker (more value) me.0, [])
 
   -- the seat has the value, which stands for a list that begins with all that was seen, with the seat's own entries
   pub record Enters (maker : E → ℕ) (stands : V → List E → Type 0) (me after : Me (Option V) (View E)) : Type 0 where
@@ -34,4 +37,5 @@ module _ {E V : Type 0} where
 
   -- it is the seat's turn exactly where the word is its ticket
   abbrev pub Looks : (E → ℕ) → (V → List E → Type 0) → Step (Option V) → Me (Option V) (View E) → ℕ → Me (Option V) (View E) → Type 0
-  Looks maker stands step me found after = (ticket : ℕ) → me.0.ticket ≡ Some ticket → MatchBool (found == ticket % 2 ^ 64) (Enters maker stands me after) (after ≡ me)
+  Looks maker stands step me found after =
+      (ticket : ℕ) → me.0.ticket ≡ Some ticket → MatchBool (found == ticket % 2 ^ 64) (Enters maker stands me after) (after ≡ me)

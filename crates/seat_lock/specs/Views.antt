@@ -18,7 +18,8 @@ module _ {E : Type 0} where
 
   -- a seat that has compared what it saw with what another saw
   abbrev pub compared_view : View E → View E
-  compared_view v = record { ticket = v.ticket; holds = v.holds; seen = longer v.seen v.beside; beside = []; mine = v.mine }
+  compared_view v =
+      record { ticket = v.ticket; holds = v.holds; seen = longer v.seen v.beside; beside = []; mine = v.mine }
 
   -- a new seat gets the first numbers of a view, and has seen as much
   abbrev pub dealt_view : ℕ → View E → View E
@@ -26,11 +27,13 @@ module _ {E : Type 0} where
 
   -- what is left of a view then
   abbrev pub rest_view : ℕ → View E → View E
-  rest_view count v = record { ticket = v.ticket; holds = v.holds; seen = v.seen; beside = v.beside; mine = drop count v.mine }
+  rest_view count v =
+      record { ticket = v.ticket; holds = v.holds; seen = v.seen; beside = v.beside; mine = drop count v.mine }
 
   -- a seat with the numbers of another, which keeps what that one saw until it compares them
   abbrev pub joint_view : View E → View E → View E
-  joint_view v w = record { ticket = v.ticket; holds = v.holds; seen = v.seen; beside = w.seen; mine = v.mine ++ w.mine }
+  joint_view v w =
+      record { ticket = v.ticket; holds = v.holds; seen = v.seen; beside = w.seen; mine = v.mine ++ w.mine }
 
   -- a seat that knows and has nothing
   abbrev pub empty_view : View E
@@ -68,4 +71,5 @@ module _ {E : Type 0} (maker : E → ℕ) where
 
   -- a seat at the end of its turn, in which these entries were added
   abbrev pub ended_view : List E → View E → View E
-  ended_view added v = record { ticket = None; holds = false; seen = v.seen ++ added; beside = v.beside; mine = with_gains added v.mine }
+  ended_view added v =
+      record { ticket = None; holds = false; seen = v.seen ++ added; beside = v.beside; mine = with_gains added v.mine }

@@ -98,7 +98,8 @@ impl<V: Storied> Lock<V> {
         requires place { turn.place ≡ self.now.place }
         requires story { V.stands turn.value (turn.seen ++ V.more turn.value) }
         requires one { IsOneTurn V.maker turn.number (V.more turn.value) }
-        ensures { result ≡ knowledge turn.place turn.number (turn.seen ++ V.more turn.value) (turn.own ++ V.more turn.value) }
+        ensures { result
+            ≡ knowledge turn.place turn.number (turn.seen ++ V.more turn.value) (turn.own ++ V.more turn.value) }
     {
         let Turn {
             mut seat,
@@ -118,7 +119,8 @@ impl<V: Storied> Lock<V> {
     /// Lets a seat see all that another has seen. It waits for nobody.
     pub fn meet(&self, seat: &mut Seat<V::Entry>, other: &mut Seat<V::Entry>)
         requires { (seat.old.place ≡ self.now.place) × (other.old.place ≡ self.now.place) }
-        ensures met { seat.new ≡ knowledge seat.old.place seat.old.number (longer seat.old.seen other.old.seen) seat.old.own }
+        ensures met { seat.new
+            ≡ knowledge seat.old.place seat.old.number (longer seat.old.seen other.old.seen) seat.old.own }
         ensures seen { IsPrefix seat.old.seen seat.new.seen × IsPrefix other.old.seen seat.new.seen }
         ensures own { IsPrefix (made_by V.maker seat.old.number seat.new.seen) seat.old.own }
         ensures other { other.new ≡ other.old }

@@ -56,7 +56,8 @@ pub fn deal_all<V: Storied>(
     requires front { front ≡ length first.me.0.seen }
     requires room { (seats.items ≡ []) × (count ≤ vec_capacity seats) }
     ensures count { length result.items ≡ count }
-    ensures each { (k : ℕ) → k < count → slice_get result.items k ≡ Some (knowledge board.now.shared.table_id (k + 1) first.me.0.seen []) }
+    ensures each { (k : ℕ) → k < count
+        → slice_get result.items k ≡ Some (knowledge board.now.shared.table_id (k + 1) first.me.0.seen []) }
 {
     for before in 0..count {
         let seat = deal(board, &mut first);

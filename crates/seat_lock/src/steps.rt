@@ -16,7 +16,8 @@ pub fn draw<V: Storied>(board: &Board<V>, seat: &mut Sitter<V>) -> u64
     requires board { IsBoard board.now.shared.table_id × (seat.old.table_id ≡ board.now.shared.table_id) }
     requires idle { (seat.old.me.0.ticket ≡ None) × (0 < length seat.old.me.0.mine) }
     ensures board { seat.new.table_id ≡ seat.old.table_id }
-    ensures drawn { (ticket : ℕ) × (result ≡ ticket % 2 ^ 64) × (seat.new.me ≡ (with_ticket (Some ticket) seat.old.me.0, seat.old.me.1)) }
+    ensures drawn { (ticket : ℕ) × (result ≡ ticket % 2 ^ 64)
+        × (seat.new.me ≡ (with_ticket (Some ticket) seat.old.me.0, seat.old.me.1)) }
 {
     board.shared.fetch_add::<Draw>(seat, 1, 1)
 }

@@ -19,9 +19,11 @@ filter-none p (x ∷ xs) none = cond-false (p x) _ _ (none x) ∙ filter-none p 
 
 -- namespaces apart
 ranks_differ : (m n : Namespace) → has_files m ≡ false → has_files n ≡ true → (rank m ≡ rank n → ⊥)
-ranks_differ m n without with e = true≢false (sym with ∙ ap (λ r. list_any (λ other. nat_eq r (rank other)) file_namespaces) (sym e) ∙ without)
+ranks_differ m n without with e =
+    true≢false (sym with ∙ ap (λ r. list_any (λ other. nat_eq r (rank other)) file_namespaces) (sym e) ∙ without)
 
-stands_nowhere : (root : Name) (o : Option Name) → ((point : Name) → o ≡ Some point → is_at_or_below root point ≡ false) → stands_below root o ≡ false
+stands_nowhere : (root : Name) (o : Option Name) → ((point : Name) → o ≡ Some point → is_at_or_below root point ≡ false)
+    → stands_below root o ≡ false
 stands_nowhere root None none = refl
 stands_nowhere root (Some point) none = none point refl
 
@@ -30,10 +32,12 @@ module _ (points : List Name) (parent : Name) (is : IsPoints points) (outside : 
   has k d lt = AllPass-from_list_all (λ point. has_files point.namespace) points is.in_files k d lt
 
   none_above : (point : Name) → has_files point.namespace ≡ true → is_at_or_below point parent ≡ false
-  none_above point files = and_left _ _ (false_from_ne_true _ (λ e. ranks_differ parent.namespace point.namespace outside files (eqb-true _ _ e)))
+  none_above point files =
+      and_left _ _ (false_from_ne_true _ (λ e. ranks_differ parent.namespace point.namespace outside files (eqb-true _ _ e)))
 
   none_below : (point : Name) → has_files point.namespace ≡ true → is_at_or_below parent point ≡ false
-  none_below point files = and_left _ _ (false_from_ne_true _ (λ e. ranks_differ parent.namespace point.namespace outside files (sym (eqb-true _ _ e))))
+  none_below point files =
+      and_left _ _ (false_from_ne_true _ (λ e. ranks_differ parent.namespace point.namespace outside files (sym (eqb-true _ _ e))))
 
   unowned : owner_of points parent ≡ None
   unowned = owner_of-none points parent (λ k d lt. none_above (get_or points k d) (has k d lt))

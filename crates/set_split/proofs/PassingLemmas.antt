@@ -22,5 +22,6 @@ module _ (p : Name → Bool) where
       ap (λ es. with_keys es no_keys) (sym (entries-retain name_cmp_total name_cmp-IsAntisymmetric keys p))
       ∙ sym (with_all-none (map.retain_keys keys p) no_keys (ap length (entries-empty name_cmp Entry)))
 
-  pub passing-same : (e : Name × Entry) (rest : List (Name × Entry)) (keys : KeyMap) → p e.0 ≡ false → with_passing rest keys ≡ with_passing (e ∷ rest) keys
+  pub passing-same : (e : Name × Entry) (rest : List (Name × Entry)) (keys : KeyMap) → p e.0 ≡ false
+      → with_passing rest keys ≡ with_passing (e ∷ rest) keys
   passing-same e rest keys fails = ap (λ es. with_keys es keys) (sym (cond-false (p e.0) _ _ fails))

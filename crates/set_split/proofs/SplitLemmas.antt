@@ -30,17 +30,23 @@ use Rattle.set_split.proofs.OwningLemmas.{owner_is, place_of}
 
 -- ---- counts
 
-where-first : (p : Name → Bool) (e : Name × Entry) (es : List (Name × Entry)) → length (where_key name_cmp p (e ∷ es)) ≡ cond (p e.0) 1 0 + length (where_key name_cmp p es)
+where-first : (p : Name → Bool) (e : Name × Entry) (es : List (Name × Entry))
+    → length (where_key name_cmp p (e ∷ es)) ≡ cond (p e.0) 1 0 + length (where_key name_cmp p es)
 where-first p e es = by (p e.0)
   where
-    by : (b : Bool) → length (cond b (e ∷ where_key name_cmp p es) (where_key name_cmp p es)) ≡ cond b 1 0 + length (where_key name_cmp p es)
+    by : (b : Bool)
+        → length (cond b (e ∷ where_key name_cmp p es) (where_key name_cmp p es))
+        ≡ cond b 1 0 + length (where_key name_cmp p es)
     by true = omega arith
     by false = omega arith
 
 -- where each name that passes one test passes one of two others, and no other name does
-pub both : (p q r : Name → Bool) → ((name : Name) → cond (p name) 1 0 ≡ cond (q name) 1 0 + cond (r name) 1 0) → (es : List (Name × Entry)) → length (where_key name_cmp p es) ≡ length (where_key name_cmp q es) + length (where_key name_cmp r es)
+pub both : (p q r : Name → Bool) → ((name : Name) → cond (p name) 1 0 ≡ cond (q name) 1 0 + cond (r name) 1 0)
+    → (es : List (Name × Entry))
+    → length (where_key name_cmp p es) ≡ length (where_key name_cmp q es) + length (where_key name_cmp r es)
 both p q r each [] = refl
-both p q r each (e ∷ es) = let rest = both p q r each es in let first = each e.0 in omega (arith, where-first p e es, where-first q e es, where-first r e es, rest, first)
+both p q r each (e ∷ es) =
+    let rest = both p q r each es in let first = each e.0 in omega (arith, where-first p e es, where-first q e es, where-first r e es, rest, first)
 
 -- ---- the mounts so far
 
@@ -50,14 +56,17 @@ module _ (points : List Name) (keys : KeyMap) where
   unowned mounts = map.retain_keys keys (λ (name : Name). not (list_any (λ i. owns points i name) mounts))
 
   pub unowned-none : length (map.entries keys) ≡ length (map.entries (unowned []))
-  unowned-none = all (map.entries keys) ∙ ap length (sym (entries-retain name_cmp_total name_cmp-IsAntisymmetric keys (λ (name : Name). not (list_any (λ i. owns points i name) []))))
+  unowned-none =
+      all (map.entries keys)
+      ∙ ap length (sym (entries-retain name_cmp_total name_cmp-IsAntisymmetric keys (λ (name : Name). not (list_any (λ i. owns points i name) []))))
     where
       all : (es : List (Name × Entry)) → length es ≡ length (where_key name_cmp (λ (name : Name). true) es)
       all [] = refl
       all (e ∷ es) = let rest = all es in omega (arith, rest)
 
 rising : (n : ℕ) → IsStrictlyIncreasing (range_with_len 0 n)
-rising n k lt = let within : k + 1 < n = omega (arith, length-range_with_len 0 n) in omega (arith, get_or-range_with_len 0 n k 0 (omega arith), get_or-range_with_len 0 n (k + 1) 0 within)
+rising n k lt =
+    let within : k + 1 < n = omega (arith, length-range_with_len 0 n) in omega (arith, get_or-range_with_len 0 n k 0 (omega arith), get_or-range_with_len 0 n (k + 1) 0 within)
 
 -- the mounts that are involved ascend
 involved-rise : (points : List Name) (parent : Name) → IsStrictlySortedBy nat_cmp (involved_in points parent)
@@ -65,7 +74,9 @@ involved-rise points parent =
     IsStrictlySortedBy-filter nat_cmp (is_involved points parent) (range_with_len 0 (length points)) (sorted_from_strictly_increasing (range_with_len 0 (length points)) (rising (length points)))
 
 -- so none of them owns what one before it owns
-apart : (points : List Name) (mounts : List ℕ) (n m : ℕ) (name : Name) → IsStrictlySortedBy nat_cmp mounts → n < length mounts → m ≡ get_or mounts n m → owns points m name ≡ true → list_any (λ i. owns points i name) (take n mounts) ≡ false
+apart : (points : List Name) (mounts : List ℕ) (n m : ℕ) (name : Name) → IsStrictlySortedBy nat_cmp mounts
+    → n < length mounts → m ≡ get_or mounts n m → owns points m name ≡ true
+    → list_any (λ i. owns points i name) (take n mounts) ≡ false
 apart points mounts n m name rise lt is mine = false_from_ne_true _ (λ e.
     let before = place_of (λ i. owns points i name) (take n mounts) m e in
     let earlier : before.0 < n = omega (arith, before.1, length-take-le n mounts (omega arith)) in
@@ -77,7 +88,10 @@ apart points mounts n m name rise lt is mine = false_from_ne_true _ (λ e.
     absurd cc)
 
 -- one mount more: what it owns is no longer left aside
-pub unowned-next : (points : List Name) (parent : Name) (keys : KeyMap) (n m : ℕ) → n < length (involved_in points parent) → m ≡ get_or (involved_in points parent) n m → length (map.entries (unowned points keys (take n (involved_in points parent)))) ≡ length (map.entries (owned_by points m keys)) + length (map.entries (unowned points keys (take (n + 1) (involved_in points parent))))
+pub unowned-next : (points : List Name) (parent : Name) (keys : KeyMap) (n m : ℕ)
+    → n < length (involved_in points parent) → m ≡ get_or (involved_in points parent) n m
+    → length (map.entries (unowned points keys (take n (involved_in points parent))))
+    ≡ length (map.entries (owned_by points m keys)) + length (map.entries (unowned points keys (take (n + 1) (involved_in points parent))))
 unowned-next points parent keys n m lt is =
     let mounts = involved_in points parent in
     let p : Name → Bool = λ name. not (list_any (λ i. owns points i name) (take n mounts)) in
@@ -95,7 +109,10 @@ unowned-next points parent keys n m lt is =
     by false false h = refl
 
 -- the same by the list that is walked
-pub unowned-step : (points : List Name) (parent : Name) (keys : KeyMap) (items : List ℕ) (n : ℕ) → items ≡ involved_in points parent → n < length items → length (map.entries (unowned points keys (take n items))) ≡ length (map.entries (owned_by points (get_or items n 0) keys)) + length (map.entries (unowned points keys (take (n + 1) items)))
+pub unowned-step : (points : List Name) (parent : Name) (keys : KeyMap) (items : List ℕ) (n : ℕ)
+    → items ≡ involved_in points parent → n < length items
+    → length (map.entries (unowned points keys (take n items)))
+    ≡ length (map.entries (owned_by points (get_or items n 0) keys)) + length (map.entries (unowned points keys (take (n + 1) items)))
 unowned-step points parent keys items n is lt =
     subst (λ ms. length (map.entries (unowned points keys (take n ms))) ≡ length (map.entries (owned_by points (get_or ms n 0) keys)) + length (map.entries (unowned points keys (take (n + 1) ms)))) (sym is)
     (let within : n < length (involved_in points parent) = subst (λ ms. n < length ms) is lt in
@@ -104,7 +121,10 @@ unowned-step points parent keys items n is lt =
 -- ---- the parts
 
 -- one part more
-pub parts-more : (points : List Name) (keys : KeyMap) (parts : List Part) (items : List ℕ) (n : ℕ) (part : Part) → n < length items → part.mount ≡ get_or items n 0 → part.keys ≡ owned_by points (get_or items n 0) keys → numbered parts ≡ over (λ i. (i, owned_by points i keys)) (take n items) → numbered (parts ++ part ∷ []) ≡ over (λ i. (i, owned_by points i keys)) (take (n + 1) items)
+pub parts-more : (points : List Name) (keys : KeyMap) (parts : List Part) (items : List ℕ) (n : ℕ) (part : Part)
+    → n < length items → part.mount ≡ get_or items n 0 → part.keys ≡ owned_by points (get_or items n 0) keys
+    → numbered parts ≡ over (λ i. (i, owned_by points i keys)) (take n items)
+    → numbered (parts ++ part ∷ []) ≡ over (λ i. (i, owned_by points i keys)) (take (n + 1) items)
 parts-more points keys parts items n part lt number owned so_far =
     let pair : ℕ → ℕ × KeyMap = λ i. (i, owned_by points i keys) in
     let shown : Part → ℕ × KeyMap = λ p. (p.mount, p.keys) in

@@ -21,14 +21,18 @@ either false true None = refl
 either false true (Some x) = refl
 either false false o = refl
 
-last_entry-owned : (points : List Name) (keys : KeyMap) (name : Name) (mounts : List ℕ) → last_entry (over (λ (part : ℕ × KeyMap). part.1) (over (λ m. (m, owned_by points m keys)) mounts)) name ≡ cond (list_any (λ m. owns points m name) mounts) (map.get keys name) None
+last_entry-owned : (points : List Name) (keys : KeyMap) (name : Name) (mounts : List ℕ)
+    → last_entry (over (λ (part : ℕ × KeyMap). part.1) (over (λ m. (m, owned_by points m keys)) mounts)) name
+    ≡ cond (list_any (λ m. owns points m name) mounts) (map.get keys name) None
 last_entry-owned points keys name [] = refl
 last_entry-owned points keys name (m ∷ mounts) =
     ap₂ option_or (last_entry-owned points keys name mounts) (get-retain name_cmp_total name_cmp-IsAntisymmetric keys (owns points m) name)
     ∙ either (owns points m name) (list_any (λ m. owns points m name) mounts) (map.get keys name)
 
 -- so the parts of a split make the keys in reach
-pub united-again : (points : List Name) (parent : Name) (keys united : KeyMap) → IsUnion (over (λ (part : ℕ × KeyMap). part.1) (parts_of points parent keys)) united → united ≡ in_reach points parent keys
+pub united-again : (points : List Name) (parent : Name) (keys united : KeyMap)
+    → IsUnion (over (λ (part : ℕ × KeyMap). part.1) (parts_of points parent keys)) united
+    → united ≡ in_reach points parent keys
 united-again points parent keys united is = map.same_map name_cmp_total name_cmp-IsAntisymmetric united (in_reach points parent keys) (λ name.
     is name
     ∙ last_entry-owned points keys name (involved_in points parent)
@@ -37,13 +41,16 @@ united-again points parent keys united is = map.same_map name_cmp_total name_cmp
 -- ---- one map more
 
 -- another map behind some
-pub last_entry-next : (maps : List KeyMap) (keys : KeyMap) (name : Name) → last_entry (maps ++ keys ∷ []) name ≡ option_or (map.get keys name) (last_entry maps name)
+pub last_entry-next : (maps : List KeyMap) (keys : KeyMap) (name : Name)
+    → last_entry (maps ++ keys ∷ []) name ≡ option_or (map.get keys name) (last_entry maps name)
 last_entry-next [] keys name = by (map.get keys name)
   where
     by : (o : Option Entry) → option_or None o ≡ option_or o None
     by None = refl
     by (Some x) = refl
-last_entry-next (first ∷ maps) keys name = ap (λ o. option_or o (map.get first name)) (last_entry-next maps keys name) ∙ by (map.get keys name) (last_entry maps name) (map.get first name)
+last_entry-next (first ∷ maps) keys name =
+    ap (λ o. option_or o (map.get first name)) (last_entry-next maps keys name)
+    ∙ by (map.get keys name) (last_entry maps name) (map.get first name)
   where
     by : (a b c : Option Entry) → option_or (option_or a b) c ≡ option_or a (option_or b c)
     by None b c = refl
@@ -52,5 +59,8 @@ last_entry-next (first ∷ maps) keys name = ap (λ o. option_or o (map.get firs
 pub IsUnion-none : IsUnion [] no_keys
 IsUnion-none name = map.get-empty name_cmp name
 
-pub IsUnion-next : (maps : List KeyMap) (before others after : KeyMap) → IsUnion maps before → ((name : Name) → map.get after name ≡ option_or (map.get others name) (map.get before name)) → IsUnion (maps ++ others ∷ []) after
-IsUnion-next maps before others after is adds name = adds name ∙ ap (option_or (map.get others name)) (is name) ∙ sym (last_entry-next maps others name)
+pub IsUnion-next : (maps : List KeyMap) (before others after : KeyMap) → IsUnion maps before
+    → ((name : Name) → map.get after name ≡ option_or (map.get others name) (map.get before name))
+    → IsUnion (maps ++ others ∷ []) after
+IsUnion-next maps before others after is adds name =
+    adds name ∙ ap (option_or (map.get others name)) (is name) ∙ sym (last_entry-next maps others name)

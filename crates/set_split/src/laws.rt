@@ -10,11 +10,14 @@ ghost use Rattle.set_split.specs.Union.{IsUnion};
 
 /// What is split and united again are the keys that some involved mount owns.
 pub fn what_is_split_is_united_again()
-    ensures { (points : List Name) (parent : Name) (keys united : KeyMap) → IsUnion (map (λ part. part.1) (parts_of points parent keys)) united → united ≡ in_reach points parent keys }
+    ensures { (points : List Name) (parent : Name) (keys united : KeyMap)
+        → IsUnion (map (λ part. part.1) (parts_of points parent keys)) united → united ≡ in_reach points parent keys }
 {}
 
 /// No mount is involved in a parent in `proc` or `default`.
 pub fn nothing_is_involved_elsewhere()
-    ensures proc { (points : List Name) (parent : Name) → IsPoints points → parent.namespace ≡ Proc → involved_in points parent ≡ [] }
-    ensures default { (points : List Name) (parent : Name) → IsPoints points → parent.namespace ≡ Default → involved_in points parent ≡ [] }
+    ensures proc { (points : List Name) (parent : Name) → IsPoints points → parent.namespace ≡ Proc
+        → involved_in points parent ≡ [] }
+    ensures default { (points : List Name) (parent : Name) → IsPoints points → parent.namespace ≡ Default
+        → involved_in points parent ≡ [] }
 {}

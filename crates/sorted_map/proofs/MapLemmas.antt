@@ -16,12 +16,18 @@ module _ {K X : Type 0} (R : K → K → Ordering) (o : IsTotalOrder R) (es : Li
   pub get-gap : (i : ℕ) → IsGap R es q i → None ≡ get (from_sorted {R = R} es) q
   get-gap i gap = sym (get-from_sorted R es q h ∙ find-gap R o q es i gap)
 
-  pub insert-place : (i : ℕ) (d : K × X) (v : X) → IsPlace R es q i → from_sorted {R = R} (set es i ((get_or es i d).0, v)) ≡ insert (from_sorted es) q v
-  insert-place i d v there = ap (from_sorted {R = R}) (sym (put-place R o q v es h i d there.in_range (there.tied d))) ∙ from_sorted-put R o es q v h
+  pub insert-place : (i : ℕ) (d : K × X) (v : X) → IsPlace R es q i
+      → from_sorted {R = R} (set es i ((get_or es i d).0, v)) ≡ insert (from_sorted es) q v
+  insert-place i d v there =
+      ap (from_sorted {R = R}) (sym (put-place R o q v es h i d there.in_range (there.tied d)))
+      ∙ from_sorted-put R o es q v h
 
   module _ (same : IsAntisymmetric R) where
-    pub remove-place : (i : ℕ) (d : K × X) → IsPlace R es q i → from_sorted {R = R} (without es i) ≡ remove (from_sorted es) q
-    remove-place i d there = ap (from_sorted {R = R}) (sym (without-place R o q es h i d there.in_range (there.tied d))) ∙ from_sorted-without R o same es q h
+    pub remove-place : (i : ℕ) (d : K × X) → IsPlace R es q i
+        → from_sorted {R = R} (without es i) ≡ remove (from_sorted es) q
+    remove-place i d there =
+        ap (from_sorted {R = R}) (sym (without-place R o q es h i d there.in_range (there.tied d)))
+        ∙ from_sorted-without R o same es q h
 
     pub remove-gap : (i : ℕ) → IsGap R es q i → from_sorted {R = R} es ≡ remove (from_sorted es) q
     remove-gap i gap = ap (from_sorted {R = R}) (sym (without-gap R o q es i gap)) ∙ from_sorted-without R o same es q h

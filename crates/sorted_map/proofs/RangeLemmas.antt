@@ -22,7 +22,8 @@ no_rest (suc m) zero = refl
 no_rest (suc m) (suc n) = refl
 
 module _ {K X : Type 0} (R : K → K → Ordering) where
-  pub is_sorted-remove_range : (from to : ℕ) (es : List (K × X)) → from ≤ to → T (is_sorted R es) → T (is_sorted R (remove_range es from to))
+  pub is_sorted-remove_range : (from to : ℕ) (es : List (K × X)) → from ≤ to → T (is_sorted R es)
+      → T (is_sorted R (remove_range es from to))
   is_sorted-remove_range from to [] le h = subst (λ fs. T (is_sorted R fs)) (no_rest from to) tt
   is_sorted-remove_range zero to (e ∷ es) le h = is_sorted-drop R to (e ∷ es) h
   is_sorted-remove_range (suc from) zero (e ∷ es) le h = absurd (omega arith)
@@ -69,14 +70,16 @@ module _ {K X : Type 0} (R : K → K → Ordering) where
       ap (λ b. cond b (e ∷ where_key R p es) (where_key R p es)) (before 0 e (omega arith) (omega arith))
       ∙ ap (λ fs. e ∷ fs) (where_key-rest p es from to (omega arith) (λ k d lt in_range. before (suc k) d (omega arith) (omega arith)) (λ k d le lt in_range. within (suc k) d (omega arith) (omega arith) (omega arith)) (λ k d le in_range. behind (suc k) d (omega arith) (omega arith)))
 
-  rises : (es : List (K × X)) → T (is_sorted R es) → (i j : ℕ) (d : K × X) → i < j → j < length es → R (get_or es i d).0 (get_or es j d).0 ≡ Less
+  rises : (es : List (K × X)) → T (is_sorted R es) → (i j : ℕ) (d : K × X) → i < j → j < length es
+      → R (get_or es i d).0 (get_or es j d).0 ≡ Less
   rises [] h i j d lt in_range = absurd (omega arith)
   rises (e ∷ es) h i zero d lt in_range = absurd (omega arith)
   rises (e ∷ es) h zero (suc j) d lt in_range = below_at R e.0 es (first _ _ h) j d (omega arith)
   rises (e ∷ es) h (suc i) (suc j) d lt in_range = rises es (second _ _ h) i j d (omega arith) (omega arith)
 
   -- a test that holds before each key of which it holds parts the entries in two
-  pub parts_in_two : (es : List (K × X)) → T (is_sorted R es) → (p : K → Bool) → ((x y : K) → R x y ≡ Less → p y ≡ true → p x ≡ true) → IsPartitionedBy (λ e. p e.0) es
+  pub parts_in_two : (es : List (K × X)) → T (is_sorted R es) → (p : K → Bool)
+      → ((x y : K) → R x y ≡ Less → p y ≡ true → p x ≡ true) → IsPartitionedBy (λ e. p e.0) es
   parts_in_two es h p closed i j d le in_range holds = elim (cases_lt i j) [
     | inl lt ↦ closed _ _ (rises es h i j d lt in_range) holds
     | inr ge ↦ let same : i ≡ j = omega arith in ap (λ n. p (get_or es n d).0) same ∙ holds

@@ -7,7 +7,8 @@ use Rattle.std.specs.Ordering.{eq_by_cmp, is_lt}
 use Rattle.std.specs.declared.cmp.Ordering.{Ordering}
 use Rattle.std.specs.declared.cmp.Ordering.TheVariants.{Less, Equal, Greater}
 
-pub mapped-cond : {X Y : Type 0} (f : X → Y) (b : Bool) (v : X) (o : Option X) → option_map f (cond b (Some v) o) ≡ cond b (Some (f v)) (option_map f o)
+pub mapped-cond : {X Y : Type 0} (f : X → Y) (b : Bool) (v : X) (o : Option X)
+    → option_map f (cond b (Some v) o) ≡ cond b (Some (f v)) (option_map f o)
 mapped-cond f true v o = refl
 mapped-cond f false v o = refl
 
@@ -25,7 +26,9 @@ module _ {K X Y : Type 0} (R : K → K → Ordering) (f : X → Y) where
 
   pub find-seen : (q : K) (es : List (K × X)) → find R q (seen es) ≡ option_map f (find R q es)
   find-seen q [] = refl
-  find-seen q (e ∷ es) = ap (cond (eq_by_cmp R q e.0) (Some (f e.1))) (find-seen q es) ∙ sym (mapped-cond f (eq_by_cmp R q e.0) e.1 (find R q es))
+  find-seen q (e ∷ es) =
+      ap (cond (eq_by_cmp R q e.0) (Some (f e.1))) (find-seen q es)
+      ∙ sym (mapped-cond f (eq_by_cmp R q e.0) e.1 (find R q es))
 
   pub put-seen : (q : K) (v : X) (es : List (K × X)) → put R q (f v) (seen es) ≡ seen (put R q v es)
   put-seen q v [] = refl

@@ -251,7 +251,8 @@ fn next_merged<K: Ord + Drop, V: Drop>(
     theirs: &mut VecDeque<(K, V)>,
 ) -> Option<(K, V)>
     requires { T (is_sorted K.cmp theirs.old.items) }
-    ensures entries { put_all K.cmp theirs.old.items ours.old.items ≡ option_to_list result ++ put_all K.cmp theirs.new.items ours.new.items }
+    ensures entries { put_all K.cmp theirs.old.items ours.old.items
+        ≡ option_to_list result ++ put_all K.cmp theirs.new.items ours.new.items }
     ensures sorted { T (is_sorted K.cmp theirs.new.items) }
     ensures fewer { IfSome result (λ _. length ours.new.items + length theirs.new.items < length ours.old.items + length theirs.old.items) }
     ensures all { result ≡ None → (ours.new.items ≡ []) × (theirs.new.items ≡ []) }

@@ -51,4 +51,5 @@ candidates_by path overrides words fallbacks =
 
 -- by what its specification metadata says
 abbrev pub candidates : List Part → Meta → List Name
-candidates path said = candidates_by path (array_texts said (codes "override")) (array_texts said (codes "namespace")) (array_texts said (codes "fallback"))
+candidates path said =
+    candidates_by path (array_texts said (codes "override")) (array_texts said (codes "namespace")) (array_texts said (codes "fallback"))

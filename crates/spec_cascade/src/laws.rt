@@ -6,9 +6,11 @@ ghost use Rattle.spec_cascade.specs.Candidates.{candidates, paths_by};
 
 /// The words that are no namespace to be searched are skipped; without a word the usual four are searched.
 pub fn words_name_namespaces()
-    ensures some { paths_by (codes "a" ∷ []) (codes "system" ∷ codes "spec" ∷ codes "dir" ∷ []) ≡ record { namespace = System; parts = codes "a" ∷ [] } ∷ record { namespace = Dir; parts = codes "a" ∷ [] } ∷ [] }
+    ensures some { paths_by (codes "a" ∷ []) (codes "system" ∷ codes "spec" ∷ codes "dir" ∷ [])
+        ≡ record { namespace = System; parts = codes "a" ∷ [] } ∷ record { namespace = Dir; parts = codes "a" ∷ [] } ∷ [] }
     ensures none { paths_by (codes "a" ∷ []) (codes "spec" ∷ []) ≡ [] }
-    ensures usual { paths_by (codes "a" ∷ []) [] ≡ record { namespace = Proc; parts = codes "a" ∷ [] } ∷ record { namespace = Dir; parts = codes "a" ∷ [] } ∷ record { namespace = User; parts = codes "a" ∷ [] } ∷ record { namespace = System; parts = codes "a" ∷ [] } ∷ [] }
+    ensures usual { paths_by (codes "a" ∷ []) []
+        ≡ record { namespace = Proc; parts = codes "a" ∷ [] } ∷ record { namespace = Dir; parts = codes "a" ∷ [] } ∷ record { namespace = User; parts = codes "a" ∷ [] } ∷ record { namespace = System; parts = codes "a" ∷ [] } ∷ [] }
 {}
 
 /// All candidates of `/a`, where `override` has `user:/b`, `namespace` has `system`, and `fallback` has a text that is

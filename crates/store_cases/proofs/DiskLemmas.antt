@@ -20,7 +20,8 @@ use Rattle.store_verdict.specs.ProcKeys.{AreProc}
 -- ---- no keys
 
 pub are_proc : (keys : KeyMap) → keys ≡ no_keys → AreProc keys
-are_proc keys none = subst AreProc (sym none) (λ name entry e. let nothing : map.get no_keys name ≡ None = map.get-empty name_cmp name in absurd cc)
+are_proc keys none =
+    subst AreProc (sym none) (λ name entry e. let nothing : map.get no_keys name ≡ None = map.get-empty name_cmp name in absurd cc)
 
 -- ---- no journal
 
@@ -63,13 +64,15 @@ pub no_bytes : (c : List ℕ) → (length c == 0) ≡ true → c ≡ []
 no_bytes [] empty = refl
 no_bytes (b ∷ c) empty = let none : length (b ∷ c) ≡ 0 = eqb-true (length (b ∷ c)) 0 empty in absurd (omega arith)
 
-pub calm_without_journal : (disk : DiskState) → IsAlone disk → seen_of disk journal_name ≡ [] → seen_of disk journal2_name ≡ [] → IsCalmDisk disk
+pub calm_without_journal : (disk : DiskState) → IsAlone disk → seen_of disk journal_name ≡ []
+    → seen_of disk journal2_name ≡ [] → IsCalmDisk disk
 calm_without_journal disk alone former journal =
     (seen_of disk, None, one_calm (seen_of disk) (left_of disk) (seen_of disk) None alone (stands_alone (seen_of disk) former journal))
 
 -- ---- behind a crash
 
-pub calm_behind : (left disk : DiskState) → CrashesCalm left → IsImage (left_of left) (seen_of disk) → IsAlone disk → IsCalmDisk disk
+pub calm_behind : (left disk : DiskState) → CrashesCalm left → IsImage (left_of left) (seen_of disk) → IsAlone disk
+    → IsCalmDisk disk
 calm_behind left disk crashes image alone =
     let is = crashes (seen_of disk) image in
     (is.0, is.1, one_calm (seen_of disk) (left_of disk) is.0 is.1 alone is.2)

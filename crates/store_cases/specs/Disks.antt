@@ -17,4 +17,5 @@ IsCalmDisk disk = (files : Image) × (doubt : Option (List FileText)) × IsCalm 
 
 -- each crash leaves an image that stands for some files, or for these with one entry
 abbrev pub CrashesCalm : DiskState → Type 0
-CrashesCalm disk = (image : Image) → IsImage (left_of disk) image → (files : Image) × (doubt : Option (List FileText)) × HasOnly (IsEither files doubt) image
+CrashesCalm disk =
+    (image : Image) → IsImage (left_of disk) image → (files : Image) × (doubt : Option (List FileText)) × HasOnly (IsEither files doubt) image

@@ -18,7 +18,8 @@ module _ (formats : Formats) (store : Store) (keys : KeyMap) (run later : Run) w
   begun_stays None begun = absurd begun
   begun_stays (Some set) begun = ap beginning begun.2
 
-  judged_stays : (set : Option Prepared) (front : ℕ) (late : Late) → RunsOn formats store keys run set (Judged front late) later → beginning later ≡ beginning run
+  judged_stays : (set : Option Prepared) (front : ℕ) (late : Late)
+      → RunsOn formats store keys run set (Judged front late) later → beginning later ≡ beginning run
   judged_stays set front (Same aside) on = ap beginning on
   judged_stays set front (Conflict m by) on = ap beginning on
   judged_stays set front (TooLarge m size) on = ap beginning on
@@ -27,7 +28,8 @@ module _ (formats : Formats) (store : Store) (keys : KeyMap) (run later : Run) w
   judged_stays set front (HistoryFull n) on = ap beginning on
   judged_stays set front (Commits commit aside) on = ap beginning on
 
-  pub stays_on : (set : Option Prepared) (answer : Answer) → RunsOn formats store keys run set answer later → beginning later ≡ beginning run
+  pub stays_on : (set : Option Prepared) (answer : Answer) → RunsOn formats store keys run set answer later
+      → beginning later ≡ beginning run
   stays_on set Memory on = ap beginning on
   stays_on set (Bad m) on = ap beginning on
   stays_on set (Got front got) on = ap beginning on
@@ -36,5 +38,6 @@ module _ (formats : Formats) (store : Store) (keys : KeyMap) (run later : Run) w
   stays_on set (Judged front late) on = judged_stays set front late on
   stays_on set (Failed front) on = begun_stays set on
 
-  pub names-stay : (set : Option Prepared) (answer : Answer) → RunsOn formats store keys run set answer later → later.names ≡ run.names
+  pub names-stay : (set : Option Prepared) (answer : Answer) → RunsOn formats store keys run set answer later
+      → later.names ≡ run.names
   names-stay set answer on = ap (λ (b : List (List ℕ) × Image × ℕ). b.0) (stays_on set answer on)

@@ -44,14 +44,18 @@ use Rattle.store_verdict.specs.declared.prepared.Prepared.{Prepared}
 use Rattle.store_verdict.specs.declared.records.Record.{Record}
 
 -- the header of some mounts is that of a run under their names, and an entry of theirs is one of that run
-pub header_under : (mounts : List Mount) (names : List (List ℕ)) (header : List ℕ) → header ≡ header_bytes (names_at mounts) → names ≡ names_at mounts → header ≡ header_bytes names
+pub header_under : (mounts : List Mount) (names : List (List ℕ)) (header : List ℕ)
+    → header ≡ header_bytes (names_at mounts) → names ≡ names_at mounts → header ≡ header_bytes names
 header_under mounts names header is same = is ∙ ap header_bytes (sym same)
 
-pub entry_under : (mounts : List Mount) (names : List (List ℕ)) (files : List FileText) → IsOfRun (names_at mounts) files → names ≡ names_at mounts → IsOfRun names files
+pub entry_under : (mounts : List Mount) (names : List (List ℕ)) (files : List FileText)
+    → IsOfRun (names_at mounts) files → names ≡ names_at mounts → IsOfRun names files
 entry_under mounts names files is same = subst (λ (ns : List (List ℕ)). IsOfRun ns files) (sym same) is
 
 -- where memory is wanting before the disk is touched, nothing enters
-pub enters_nothing : {D P : Type 0} (g : Ghosts D) (mounts : List Mount) (commit : past.Commit) (aside : ℕ) (keys : KeyMap) (set : Prepared) (old new : Core D P) (rec : Record) (result : Result Done CommitFault) → result ≡ Err fault.Memory → IsUnwritten old new
+pub enters_nothing : {D P : Type 0} (g : Ghosts D) (mounts : List Mount) (commit : past.Commit) (aside : ℕ)
+    (keys : KeyMap) (set : Prepared) (old new : Core D P) (rec : Record) (result : Result Done CommitFault)
+    → result ≡ Err fault.Memory → IsUnwritten old new
     → new.patterns ≡ old.patterns → EntersHistory g mounts commit aside keys set old new rec rec result
 enters_nothing {D} g mounts commit aside keys set old new rec result memory still patterns = record {
   entered = subst (IsEntered g mounts commit aside keys set old new rec rec) (sym memory) (refl, still);
@@ -81,13 +85,15 @@ module _ (formats : Formats) {D P : Type 0} (g : Ghosts D) (refusals : P → ℕ
   Decides late = (procs : ℕ → KeyMap) → IsLate formats (store_of files procs) core.history.commits core.keys set late
 
   abbrev Judges : Bool → Result Done CommitFault → Type 0
-  Judges rose result = (procs : ℕ → KeyMap) → IsJudged formats (store_of files procs) rose core.history.commits core.keys set result
+  Judges rose result =
+      (procs : ℕ → KeyMap) → IsJudged formats (store_of files procs) rose core.history.commits core.keys set result
 
   -- the matcher alone moved, and the history may be ready to be asked for names
   abbrev moved : Core D P
   moved = record core { patterns = patterns; history = history }
 
-  pub commits_nothing : (result : Result Done CommitFault) → has_written result ≡ false → Judges risen result → CommitsSet formats g refusals files core moved rec rec prepared result
+  pub commits_nothing : (result : Result Done CommitFault) → has_written result ≡ false → Judges risen result
+      → CommitsSet formats g refusals files core moved rec rec prepared result
   commits_nothing result none judged =
       let still : IsUnwritten core moved = matched core patterns history same_history in
       record {
@@ -112,7 +118,8 @@ module _ (formats : Formats) {D P : Type 0} (g : Ghosts D) (refusals : P → ℕ
       }
 
   -- a conflict, or want of memory for its name
-  pub commits_conflict : (m by front : ℕ) (why : CommitFault) → front ≡ length core.history.commits → Decides (verdict.Conflict m by) → IsConflict (over (λ file. file.mount) files) m by front why
+  pub commits_conflict : (m by front : ℕ) (why : CommitFault) → front ≡ length core.history.commits
+      → Decides (verdict.Conflict m by) → IsConflict (over (λ file. file.mount) files) m by front why
       → CommitsSet formats g refusals files core moved rec rec prepared (Err why)
   commits_conflict m by front fault.Memory same is conflict = commits_nothing (Err fault.Memory) refl (λ procs. tt)
   commits_conflict m by front (fault.Conflict mount number found) same is conflict =
@@ -125,7 +132,8 @@ module _ (formats : Formats) {D P : Type 0} (g : Ghosts D) (refusals : P → ℕ
   commits_conflict m by front (fault.DiskFault found) same is conflict = absurd conflict
 
   -- too large a file, or want of memory for the name of its mount
-  pub commits_too_large : (m bytes front : ℕ) (why : CommitFault) → front ≡ length core.history.commits → Decides (verdict.TooLarge m bytes) → IsTooLarge (over (λ file. file.mount) files) m bytes front why
+  pub commits_too_large : (m bytes front : ℕ) (why : CommitFault) → front ≡ length core.history.commits
+      → Decides (verdict.TooLarge m bytes) → IsTooLarge (over (λ file. file.mount) files) m bytes front why
       → CommitsSet formats g refusals files core moved rec rec prepared (Err why)
   commits_too_large m bytes front fault.Memory same is large = commits_nothing (Err fault.Memory) refl (λ procs. tt)
   commits_too_large m bytes front (fault.FileTooLarge mount size found) same is large =
@@ -146,17 +154,21 @@ module _ (formats : Formats) {D P : Type 0} (g : Ghosts D) (refusals : P → ℕ
     filed = with_texts prepared renewed
 
     own : Decides (verdict.Commits (commit_of set) aside)
-    own = subst (λ (c : past.Commit). Decides (verdict.Commits c aside)) (is_committed formats (store_of files none_of) core.history.commits core.keys set commit aside (is none_of)).is is
+    own =
+        subst (λ (c : past.Commit). Decides (verdict.Commits c aside)) (is_committed formats (store_of files none_of) core.history.commits core.keys set commit aside (is none_of)).is is
 
     -- what the core and the record are by the answer
     record Ends (result : Result Done CommitFault) : Type 0 where
       judged : (rose : Bool) → Judges rose result
-      cause : (front : ℕ) → result ≡ Err (fault.DiskFault front) → HasRisen (g.faults core.journal.disk) (g.faults next.journal.disk)
+      cause : (front : ℕ) → result ≡ Err (fault.DiskFault front)
+          → HasRisen (g.faults core.journal.disk) (g.faults next.journal.disk)
       valid : (violation : Violation) (front : ℕ) → result ≡ Err (fault.Invalid violation front) → ⊥
       unwritten : has_written result ≡ false → IsUnwritten core next
       wrote : has_written result ≡ true → next.wrote ≡ true
 
-    ends : (result : Result Done CommitFault) → IsEntered g mounts commit aside keys filed (record core { patterns = patterns }) next rec new result → Ends result
+    ends : (result : Result Done CommitFault)
+        → IsEntered g mounts commit aside keys filed (record core { patterns = patterns }) next rec new result
+        → Ends result
     ends (Ok m) has = record {
       judged = λ rose. subst (λ (d : Done). Judges rose (Ok d)) (sym has.0) (λ procs. (refl, own procs));
       cause = λ front e. absurd cc;
@@ -184,7 +196,9 @@ module _ (formats : Formats) {D P : Type 0} (g : Ghosts D) (refusals : P → ℕ
     ends (Err (fault.DatabaseFull weight front)) has = absurd has
     ends (Err (fault.HistoryFull weight front)) has = absurd has
 
-    pub commits_entry : (result : Result Done CommitFault) → EntersHistory g mounts commit aside keys filed moved next rec new result → CommitsSet formats g refusals files core next rec new prepared result
+    pub commits_entry : (result : Result Done CommitFault)
+        → EntersHistory g mounts commit aside keys filed moved next rec new result
+        → CommitsSet formats g refusals files core next rec new prepared result
     commits_entry result enters =
         let entered : IsEntered g mounts commit aside keys filed (record core { patterns = patterns }) next rec new result =
         subst (λ (log : Log). IsEntered g mounts commit aside keys filed (record core { patterns = patterns; history = log }) next rec new result) same_history enters.entered in

@@ -43,15 +43,18 @@ module _ (formats : Formats) (store : Store) (keys other : KeyMap) where
   abbrev Alike : ℕ → Type 0
   Alike m = owned_by (points_of store) m keys ≡ owned_by (points_of store) m other
 
-  with-alike : (m : ℕ) (mount : Option Mount) (one two : Texts) → Alike m → one ≡ two → with_text formats store keys m mount one ≡ with_text formats store other m mount two
+  with-alike : (m : ℕ) (mount : Option Mount) (one two : Texts) → Alike m → one ≡ two
+      → with_text formats store keys m mount one ≡ with_text formats store other m mount two
   with-alike m None one two same e = e
   with-alike m (Some mount) one two same e =
       ap₂ (λ (owned : KeyMap) (ts : Texts). map.insert ts mount.file (formats.text mount.kind (contents store m mount owned))) same e
 
   -- the texts of some mounts go by what these own
-  pub texts-alike : (ms : List ℕ) → ((m : ℕ) → is_among ms m ≡ true → Alike m) → texts_at formats store keys ms ≡ texts_at formats store other ms
+  pub texts-alike : (ms : List ℕ) → ((m : ℕ) → is_among ms m ≡ true → Alike m)
+      → texts_at formats store keys ms ≡ texts_at formats store other ms
   texts-alike [] same = refl
-  texts-alike (m ∷ ms) same = with-alike m (slice_get store.mounts m) _ _ (same m (among-first m ms)) (texts-alike ms (λ k among. same k (among-rest m k ms among)))
+  texts-alike (m ∷ ms) same =
+      with-alike m (slice_get store.mounts m) _ _ (same m (among-first m ms)) (texts-alike ms (λ k among. same k (among-rest m k ms among)))
 
 -- where no number has something, none of them has
 none_counts : (p : ℕ → Bool) (ms : List ℕ) (m : ℕ) → list_any p ms ≡ false → is_among ms m ≡ true → p m ≡ false
@@ -64,12 +67,16 @@ none_counts p (n ∷ ms) m none among = elim (nat_eq m n) as (λ b. nat_eq m n �
 -- ---- the history
 
 -- the last commit of a legal history is legal
-last_legal : (formats : Formats) (store : Store) (before : KeyMap) (history : List past.Commit) (commit : past.Commit) → AreLegal formats store before (history ++ commit ∷ []) → IsLegalCommit formats store (replay before history) commit
+last_legal : (formats : Formats) (store : Store) (before : KeyMap) (history : List past.Commit) (commit : past.Commit)
+    → AreLegal formats store before (history ++ commit ∷ [])
+    → IsLegalCommit formats store (replay before history) commit
 last_legal formats store before [] commit legal = legal.0
-last_legal formats store before (first ∷ history) commit legal = last_legal formats store (changed_by first.changes before) history commit legal.1
+last_legal formats store before (first ∷ history) commit legal =
+    last_legal formats store (changed_by first.changes before) history commit legal.1
 
 -- a prepared set touches mounts of the table alone
-set-within : (formats : Formats) (store : Store) (history : List past.Commit) (asked : Option Asked) (set : Prepared) → IsSet formats store history asked (Some set) → AllByRecursion (λ m. m < length store.mounts) set.touched
+set-within : (formats : Formats) (store : Store) (history : List past.Commit) (asked : Option Asked) (set : Prepared)
+    → IsSet formats store history asked (Some set) → AllByRecursion (λ m. m < length store.mounts) set.touched
 set-within formats store history None set is = absurd is
 set-within formats store history (Some asked) set is =
     let points : List Name = points_of store in
@@ -96,14 +103,16 @@ module _ (formats : Formats) {D P : Type 0} (store : Store) (core : Core D P) (r
 
   -- each touched mount is one of the table
   pub within : AllByRecursion (λ m. m < length store.mounts) set.touched
-  within = set-within formats store world.history (world.asked p) set (subst (IsSet formats store world.history (world.asked p)) is_set (st.stands.sets p))
+  within =
+      set-within formats store world.history (world.asked p) set (subst (IsSet formats store world.history (world.asked p)) is_set (st.stands.sets p))
 
   module _ (commit : past.Commit) (aside : ℕ) (late : IsLate formats store core.history.commits core.keys set (Commits commit aside)) where
     abbrev next : cores.Core
     next = core_after store old r set (Commits commit aside)
 
     goes : Goes formats store world (Commit r p) (Judged (length core.history.commits) (Commits commit aside)) next
-    goes = follows formats store world old (Commit r p) (Judged (length core.history.commits) (Commits commit aside)) next st.stands (record { judged = judgement (Commits commit aside) late; next_is = refl })
+    goes =
+        follows formats store world old (Commit r p) (Judged (length core.history.commits) (Commits commit aside)) next st.stands (record { judged = judgement (Commits commit aside) late; next_is = refl })
 
     joined : goes.after.history ≡ core.history.commits ++ commit ∷ []
     joined = sym goes.stands.history
@@ -119,7 +128,8 @@ module _ (formats : Formats) {D P : Type 0} (store : Store) (core : Core D P) (r
     commit_is_set = (is_committed formats store core.history.commits core.keys set commit aside late).is
 
     -- where no touched mount counts by key, the texts of what was wanted are those of the commit
-    pub entry_is : list_any (counts_keys store) set.touched ≡ false → as_entry (texts_at formats store set.keys set.touched) ≡ entry_of formats store core.keys (commit_of set)
+    pub entry_is : list_any (counts_keys store) set.touched ≡ false
+        → as_entry (texts_at formats store set.keys set.touched) ≡ entry_of formats store core.keys (commit_of set)
     entry_is none =
         let made = remade (is_committed formats store core.history.commits core.keys set commit aside late).free in
         ap as_entry (texts-alike formats store set.keys (after core.keys set.changes) set.touched (λ m among. sym (made.wanted m among (none_counts (counts_keys store) set.touched m none among))))

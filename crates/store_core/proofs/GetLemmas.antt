@@ -29,17 +29,21 @@ pub bad_is : (store : Store) (m : ℕ) (ms : List ℕ) → first_some (if_bad st
 bad_is store m [] e = absurd cc
 bad_is store m (n ∷ ms) e = by (store.is_bad n) refl e (bad_is store m ms)
   where
-    by : (b : Bool) → store.is_bad n ≡ b → option_or (cond b (Some n) None) (first_some (if_bad store) ms) ≡ Some m → (first_some (if_bad store) ms ≡ Some m → store.is_bad m ≡ true) → store.is_bad m ≡ true
+    by : (b : Bool) → store.is_bad n ≡ b → option_or (cond b (Some n) None) (first_some (if_bad store) ms) ≡ Some m
+        → (first_some (if_bad store) ms ≡ Some m → store.is_bad m ≡ true) → store.is_bad m ≡ true
     by true is h rest = ap store.is_bad (sym (some_is n m h)) ∙ is
     by false is h rest = rest h
 
 module _ (formats : Formats) (store : Store) (files : List MountedFile) {D P : Type 0} (core : Core D P) (records : ℕ → model.Record) (prepared : ℕ → Option sets.Prepared) (parent : Name) (old new : Record) (is : records (handle_of old) ≡ record_of old) where
-  kept : record_of new ≡ record_of old → core_with core (put (handle_of old) (record_of new) records) prepared ≡ core_with core records prepared
+  kept : record_of new ≡ record_of old
+      → core_with core (put (handle_of old) (record_of new) records) prepared ≡ core_with core records prepared
   kept same =
       let each : (n : ℕ) → put (handle_of old) (record_of new) records n ≡ records n = put-same (handle_of old) (record_of new) records (is ∙ sym same) in
       λ i. record { history = core.history.commits; keys = core.keys; records = λ n. each n i; sets = prepared }
 
-  pub keys_got : (front : ℕ) (keys : KeyMap) → front ≡ length core.history.commits → Gets store core.keys front parent old new keys → HasGot formats store files core records prepared parent old new (Ok (record { front = front; keys = keys }))
+  pub keys_got : (front : ℕ) (keys : KeyMap) → front ≡ length core.history.commits
+      → Gets store core.keys front parent old new keys
+      → HasGot formats store files core records prepared parent old new (Ok (record { front = front; keys = keys }))
   keys_got front keys front_is gets =
       let moved : record_of new ≡ keeping (involved_in (points_of store) parent) (length core.history.commits) (wants (points_of store) core.keys) (records (handle_of old)) =
       gets.record_is ∙ ap₂ (λ (n : ℕ) (rec : model.Record). keeping (involved_in (points_of store) parent) n (wants (points_of store) core.keys) rec) front_is (sym is) in
@@ -54,9 +58,13 @@ module _ (formats : Formats) (store : Store) (files : List MountedFile) {D P : T
         };
       }
 
-  pub nothing_got : record_of new ≡ record_of old → HasGot formats store files core records prepared parent old new (Err fault.Memory)
+  pub nothing_got : record_of new ≡ record_of old
+      → HasGot formats store files core records prepared parent old new (Err fault.Memory)
   nothing_got same = record { answer = Memory; is_answer = inl (refl, refl); made = kept same }
 
-  pub refused : (m : ℕ) (why : GetFault) → record_of new ≡ record_of old → first_bad store parent ≡ Some m → (why ≡ fault.Memory) ⊎ (fault_at files m ≡ Some why) → HasGot formats store files core records prepared parent old new (Err why)
-  refused m why same bad (inl e) = subst (λ (w : GetFault). HasGot formats store files core records prepared parent old new (Err w)) (sym e) (nothing_got same)
+  pub refused : (m : ℕ) (why : GetFault) → record_of new ≡ record_of old → first_bad store parent ≡ Some m
+      → (why ≡ fault.Memory) ⊎ (fault_at files m ≡ Some why)
+      → HasGot formats store files core records prepared parent old new (Err why)
+  refused m why same bad (inl e) =
+      subst (λ (w : GetFault). HasGot formats store files core records prepared parent old new (Err w)) (sym e) (nothing_got same)
   refused m why same bad (inr e) = record { answer = Bad m; is_answer = inr (m, e, refl); made = (bad, kept same) }

@@ -19,16 +19,20 @@ use Rattle.store_core.proofs.OpeningLemmas.{have_files}
 
 -- what is left behind a place, from the element there on
 drop-next : {A : Type 0} (xs : List A) (i : ℕ) (x : A) → slice_get xs i ≡ Some x → drop i xs ≡ x ∷ drop (i + 1) xs
-drop-next xs i x there = drop_more xs i x (slice_get_within xs i x there) ∙ ap (λ y. y ∷ drop (i + 1) xs) (get_or_from_slice_get xs i x x there)
+drop-next xs i x there =
+    drop_more xs i x (slice_get_within xs i x there)
+    ∙ ap (λ y. y ∷ drop (i + 1) xs) (get_or_from_slice_get xs i x x there)
 
 -- behind the last mount there are no files
 pub files-none : (mounts : List Mount) (n : ℕ) → n ≡ length mounts → [] ≡ map.entries (file_names (drop n mounts))
 files-none mounts n all =
-    sym (entries-empty text_cmp Unit) ∙ ap (λ (ms : List Mount). map.entries (file_names ms)) (sym (drop_all n mounts (omega (arith, all))))
+    sym (entries-empty text_cmp Unit)
+    ∙ ap (λ (ms : List Mount). map.entries (file_names ms)) (sym (drop_all n mounts (omega (arith, all))))
 
 -- one mount more, before those from a place on
 pub files-next : (mounts : List Mount) (n : ℕ) (mount : Mount) → slice_get mounts n ≡ Some mount
-    → put text_cmp mount.file tt (map.entries (file_names (drop (n + 1) mounts))) ≡ map.entries (file_names (drop n mounts))
+    → put text_cmp mount.file tt (map.entries (file_names (drop (n + 1) mounts)))
+    ≡ map.entries (file_names (drop n mounts))
 files-next mounts n mount there =
     sym (map.entries-insert nat_list_cmp_total (file_names (drop (n + 1) mounts)) mount.file tt)
     ∙ ap (λ (ms : List Mount). map.entries (file_names ms)) (sym (drop-next mounts n mount there))

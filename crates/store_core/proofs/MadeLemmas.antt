@@ -18,8 +18,12 @@ use Rattle.store_verdict.specs.RecordView.{handle_of, places_of, record_of}
 use Rattle.store_verdict.specs.declared.prepared.Prepared.{Prepared}
 use Rattle.store_verdict.specs.declared.records.Record.{Record}
 
-pub belongs_made : (formats : Formats) {D P : Type 0} (store : Store) (core : Core D P) (records : ℕ → model.Record) (made : ℕ → Option sets.Prepared) (world : World) (p : ℕ) (rec : Record) (set : Prepared) (handle : ℕ) (before : model.Record) (parent : Name) (keys : KeyMap)
-    → StandsIn formats store core records made world → records (handle_of rec) ≡ record_of rec → length store.mounts ≤ places_of rec → made p ≡ Some (prepared_of set) → accepts (record_of rec) (handle_of rec) (prepared_of set) ≡ true
+pub belongs_made : (formats : Formats) {D P : Type 0} (store : Store) (core : Core D P) (records : ℕ → model.Record)
+    (made : ℕ → Option sets.Prepared) (world : World) (p : ℕ) (rec : Record) (set : Prepared) (handle : ℕ)
+    (before : model.Record) (parent : Name) (keys : KeyMap)
+    → StandsIn formats store core records made world → records (handle_of rec) ≡ record_of rec
+    → length store.mounts ≤ places_of rec → made p ≡ Some (prepared_of set)
+    → accepts (record_of rec) (handle_of rec) (prepared_of set) ≡ true
     → IsMade formats store handle before parent keys set → BelongsIn formats store core records made world p rec set
 belongs_made formats store core records made world p rec set handle before parent keys stands record_is places set_is accepted is_made =
     let same : keys ≡ set.keys = sym (ap (λ (s : sets.Prepared). s.keys) is_made.is) in

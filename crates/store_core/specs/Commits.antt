@@ -32,23 +32,28 @@ use Rattle.store_verdict.specs.declared.records.Record.{Record}
 -- refusals
 pub record CommitsSet (formats : Formats) {D P : Type 0} (g : Ghosts D) (refusals : P → ℕ) (files : List MountedFile) (old new : Core D P) (before after : Record) (set : Prepared) (result : Result Done CommitFault) : Type 0 where
   -- what the history decides, whatever the disk tells
-  pub judged : (procs : ℕ → KeyMap) → IsJudged formats (store_of files procs) (has_risen (refusals old.patterns) (refusals new.patterns)) old.history.commits old.keys (prepared_of set) result
+  pub judged : (procs : ℕ → KeyMap)
+      → IsJudged formats (store_of files procs) (has_risen (refusals old.patterns) (refusals new.patterns)) old.history.commits old.keys (prepared_of set) result
   pub made : (procs : ℕ → KeyMap) (records : ℕ → model.Record) (made : ℕ → Option sets.Prepared) (world : World) (p : ℕ)
       → BelongsIn formats (store_of files procs) old records made world p before set
       → HasMade formats (store_of files procs) old new records made p before after set (has_risen (refusals old.patterns) (refusals new.patterns)) result
   -- and on the disk
-  pub committed : (procs : ℕ → KeyMap) (opened : D) (records : ℕ → model.Record) (made : ℕ → Option sets.Prepared) (world : World) (run : Run) (p : ℕ)
+  pub committed : (procs : ℕ → KeyMap) (opened : D) (records : ℕ → model.Record) (made : ℕ → Option sets.Prepared)
+      (world : World) (run : Run) (p : ℕ)
       → Belongs formats g (store_of files procs) opened old records made world run p before set
       → HasAnswered formats g (store_of files procs) opened old new records made run p before after set (has_risen (refusals old.patterns) (refusals new.patterns)) result
-  pub any_moment : (procs : ℕ → KeyMap) (opened : D) (records : ℕ → model.Record) (made : ℕ → Option sets.Prepared) (world : World) (run : Run) (p : ℕ)
+  pub any_moment : (procs : ℕ → KeyMap) (opened : D) (records : ℕ → model.Record) (made : ℕ → Option sets.Prepared)
+      (world : World) (run : Run) (p : ℕ)
       → Belongs formats g (store_of files procs) opened old records made world run p before set
       → LeavesOnly g old.journal.disk new.journal.disk (IsAmid (files_of run) run.doubt (entry_of formats (store_of files procs) old.keys (commit_of (prepared_of set))))
   -- whatever is answered, the keys that the opening found stay
   pub start : new.start ≡ old.start
   pub goes : GoesOn g old.journal.disk new.journal.disk
-  pub cause : (front : ℕ) → result ≡ Err (DiskFault front) → HasRisen (g.faults old.journal.disk) (g.faults new.journal.disk)
+  pub cause : (front : ℕ) → result ≡ Err (DiskFault front)
+      → HasRisen (g.faults old.journal.disk) (g.faults new.journal.disk)
   -- a pattern that is not too long breaks rule 6 only where the matcher refused one
-  pub refused : (violation : Violation) (front : ℕ) → result ≡ Err (Invalid violation front) → violation.rule ≡ 6 → length violation.given ≤ longest_pattern → HasRisen (refusals old.patterns) (refusals new.patterns)
+  pub refused : (violation : Violation) (front : ℕ) → result ≡ Err (Invalid violation front) → violation.rule ≡ 6
+      → length violation.given ≤ longest_pattern → HasRisen (refusals old.patterns) (refusals new.patterns)
   pub later : refusals old.patterns ≤ refusals new.patterns
   pub unwritten : has_written result ≡ false → IsUnwritten old new
   pub wrote : has_written result ≡ true → new.wrote ≡ true

@@ -20,7 +20,8 @@ use Rattle.store_phases.specs.Stores.{IsStore}
 
 -- an entry was begun and not acknowledged: then none is in doubt, or the former one, or this one
 abbrev pub BeginsOnly : Run → List FileText → Run → Type 0
-BeginsOnly run entry later = (doubt : Option (List FileText)) × IsOneOf doubt run.doubt entry × (later ≡ after_begun run entry doubt)
+BeginsOnly run entry later =
+    (doubt : Option (List FileText)) × IsOneOf doubt run.doubt entry × (later ≡ after_begun run entry doubt)
 
 -- the texts of a set were begun
 abbrev pub BeginsSet : Formats → Store → KeyMap → Run → Option Prepared → Run → Type 0
@@ -29,7 +30,8 @@ BeginsSet formats store keys run (Some set) later = BeginsOnly run (entry_of for
 
 -- how a run goes on by the answer to a commit of a set: its texts are acknowledged, or begun, or nothing is written
 abbrev pub RunsOn : Formats → Store → KeyMap → Run → Option Prepared → Answer → Run → Type 0
-RunsOn formats store keys run set (Judged front (Commits commit aside)) later = later ≡ after_commit run (entry_of formats store keys commit)
+RunsOn formats store keys run set (Judged front (Commits commit aside)) later =
+    later ≡ after_commit run (entry_of formats store keys commit)
 RunsOn formats store keys run set (Failed front) later = BeginsSet formats store keys run set later
 RunsOn formats store keys run set answer later = later ≡ run
 

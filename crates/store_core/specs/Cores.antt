@@ -15,7 +15,8 @@ use Rattle.store_phases.specs.Stores.{IsStore}
 
 -- a core with the records of its handles and their prepared sets, as the definitions of a store have it
 abbrev pub core_with : {D P : Type 0} → Core D P → (ℕ → Record) → (ℕ → Option Prepared) → cores.Core
-core_with core records sets = record { history = core.history.commits; keys = core.keys; records = records; sets = sets }
+core_with core records sets =
+    record { history = core.history.commits; keys = core.keys; records = records; sets = sets }
 
 -- A core, with these records and sets, stands for a world, and the mounts have files that the journal can hold,
 -- whatever the disk tells. It keeps the keys that the store begins with; so its history, which is legal, leads from

@@ -35,10 +35,12 @@ pub record HoldsRun {D : Type 0} (g : Ghosts D) (mounts : List Mount) (opened : 
 pub record HasEntered {D P : Type 0} (g : Ghosts D) (mounts : List Mount) (commit : Commit) (keys : KeyMap) (set : Prepared) (old new : Core D P) (before after : Record) : Type 0 where
   pub history : new.history.commits ≡ old.history.commits ++ commit ∷ []
   pub keys_are : new.keys ≡ keys
-  pub kept : (store : Store) (touched : List ℕ) (wanted : ℕ → KeyMap) → store.mounts ≡ mounts → numbered set.wanted ≡ over (λ m. (m, wanted m)) touched
+  pub kept : (store : Store) (touched : List ℕ) (wanted : ℕ → KeyMap) → store.mounts ≡ mounts
+      → numbered set.wanted ≡ over (λ m. (m, wanted m)) touched
       → record_of after ≡ storing store touched (length old.history.commits + 1) wanted (record_of before)
   pub wrote : new.wrote ≡ true
-  pub stored : (opened : D) (run : Run) → HoldsRun g mounts opened old.journal run → IsStore g opened new.journal (after_commit run set.texts)
+  pub stored : (opened : D) (run : Run) → HoldsRun g mounts opened old.journal run
+      → IsStore g opened new.journal (after_commit run set.texts)
 
 -- the disk failed: what is kept is as it was, and at most one entry may still come into the files
 pub record HasBegun {D P : Type 0} (g : Ghosts D) (mounts : List Mount) (set : Prepared) (old new : Core D P) (before after : Record) : Type 0 where
@@ -47,20 +49,25 @@ pub record HasBegun {D P : Type 0} (g : Ghosts D) (mounts : List Mount) (set : P
   pub kept : record_of after ≡ record_of before
   pub wrote : new.wrote ≡ true
   pub begun : (opened : D) (run : Run) → HoldsRun g mounts opened old.journal run
-      → (later : Option (List FileText)) × IsOneOf later run.doubt set.texts × IsStore g opened new.journal (after_begun run set.texts later)
+      → (later : Option (List FileText)) × IsOneOf later run.doubt set.texts
+      × IsStore g opened new.journal (after_begun run set.texts later)
   pub cause : HasRisen (g.faults old.journal.disk) (g.faults new.journal.disk)
 
 -- by the answer; where memory is wanting nothing is written
 abbrev pub IsEntered : {D P : Type 0} → Ghosts D → List Mount → Commit → ℕ → KeyMap → Prepared → Core D P → Core D P → Record → Record → Result Done CommitFault → Type 0
-IsEntered g mounts commit aside keys set old new before after (Ok made) = (made ≡ Committed (length old.history.commits + 1) aside) × HasEntered g mounts commit keys set old new before after
-IsEntered g mounts commit aside keys set old new before after (Err Memory) = (record_of after ≡ record_of before) × IsUnwritten old new
-IsEntered g mounts commit aside keys set old new before after (Err (DiskFault front)) = (front ≡ length old.history.commits) × HasBegun g mounts set old new before after
+IsEntered g mounts commit aside keys set old new before after (Ok made) =
+    (made ≡ Committed (length old.history.commits + 1) aside) × HasEntered g mounts commit keys set old new before after
+IsEntered g mounts commit aside keys set old new before after (Err Memory) =
+    (record_of after ≡ record_of before) × IsUnwritten old new
+IsEntered g mounts commit aside keys set old new before after (Err (DiskFault front)) =
+    (front ≡ length old.history.commits) × HasBegun g mounts set old new before after
 IsEntered g mounts commit aside keys set old new before after (Err why) = ⊥
 
 -- and whatever is answered
 pub record EntersHistory {D P : Type 0} (g : Ghosts D) (mounts : List Mount) (commit : Commit) (aside : ℕ) (keys : KeyMap) (set : Prepared) (old new : Core D P) (before after : Record) (result : Result Done CommitFault) : Type 0 where
   pub entered : IsEntered g mounts commit aside keys set old new before after result
-  pub any_moment : (opened : D) (run : Run) → HoldsRun g mounts opened old.journal run → LeavesOnly g old.journal.disk new.journal.disk (IsAmid (files_of run) run.doubt set.texts)
+  pub any_moment : (opened : D) (run : Run) → HoldsRun g mounts opened old.journal run
+      → LeavesOnly g old.journal.disk new.journal.disk (IsAmid (files_of run) run.doubt set.texts)
   pub start : new.start ≡ old.start
   pub patterns : new.patterns ≡ old.patterns
   pub goes : GoesOn g old.journal.disk new.journal.disk

@@ -24,7 +24,9 @@ pub record FlushesStore {D P : Type 0} (g : Ghosts D) (old new : Core D P) (resu
   pub patterns : new.patterns ≡ old.patterns
   -- and so does the run: each file is as its commits leave it, where the flush wrote them
   pub on_disk : (opened : D) (run : Run) → IsStore g opened old.journal run → IsStore g opened new.journal run
-  pub written : (opened : D) (run : Run) → IsStore g opened old.journal run → result ≡ Ok true → IsSettled (g.may_leave new.journal.disk) (files_of run)
-  pub any_moment : (opened : D) (run : Run) → IsStore g opened old.journal run → LeavesOnly g old.journal.disk new.journal.disk (HasOnly (IsEither (files_of run) run.doubt))
+  pub written : (opened : D) (run : Run) → IsStore g opened old.journal run → result ≡ Ok true
+      → IsSettled (g.may_leave new.journal.disk) (files_of run)
+  pub any_moment : (opened : D) (run : Run) → IsStore g opened old.journal run
+      → LeavesOnly g old.journal.disk new.journal.disk (HasOnly (IsEither (files_of run) run.doubt))
   pub goes : GoesOn g old.journal.disk new.journal.disk
   pub cause : HasCause (g.faults old.journal.disk) (g.faults new.journal.disk) result

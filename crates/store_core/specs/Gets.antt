@@ -28,7 +28,8 @@ fault_at files m = option_and_then fault_in (slice_get files m)
 -- the answer to a get; a bad mount is told by its mountpoint, with why its file isn't used
 abbrev pub IsGot : List MountedFile → Result Got GetFault → Answer → Type 0
 IsGot files (Ok got) answer = answer ≡ event.Got got.front got.keys
-IsGot files (Err why) answer = ((why ≡ fault.Memory) × (answer ≡ event.Memory)) ⊎ ((m : ℕ) × (fault_at files m ≡ Some why) × (answer ≡ event.Bad m))
+IsGot files (Err why) answer =
+    ((why ≡ fault.Memory) × (answer ≡ event.Memory)) ⊎ ((m : ℕ) × (fault_at files m ≡ Some why) × (answer ≡ event.Bad m))
 
 -- a handle got a parent as the definitions say, with this answer
 pub record HasGot (formats : Formats) (store : Store) (files : List MountedFile) {D P : Type 0} (core : Core D P) (records : ℕ → model.Record) (prepared : ℕ → Option sets.Prepared) (parent : Name) (old new : Record) (result : Result Got GetFault) : Type 0 where

@@ -60,7 +60,8 @@ pub record OpensStore (formats : Formats) (Reads : Reading) (IsBad : Badness) {D
   -- a disk without a former journal and without an open entry is only read
   pub as_seen : g.tells disk ≡ true → HasNoFormer (g.seen disk) → open_list (g.seen disk) ≡ []
       → MatchResult result (λ opened. IsOpened Reads IsBad (g.seen disk) opened.plan.mounted) (λ refused. RefusesStore Reads IsBad (g.seen disk own_mount.file) refused.fault)
-  pub left_alone : g.tells disk ≡ true → HasNoFormer (g.seen disk) → open_list (g.seen disk) ≡ [] → OnlyReads g disk (disk_of result)
+  pub left_alone : g.tells disk ≡ true → HasNoFormer (g.seen disk) → open_list (g.seen disk) ≡ []
+      → OnlyReads g disk (disk_of result)
   -- of each disk that tells, also one that isn't calm and has an open entry, the files are what it shows then, and so
   -- is what refuses them
   pub told : g.tells disk ≡ true
@@ -68,15 +69,20 @@ pub record OpensStore (formats : Formats) (Reads : Reading) (IsBad : Badness) {D
   -- why it is refused
   pub refused : WhereCalm g disk (λ files doubt. IfErr result (λ refused. RefusesStore Reads IsBad (opened_files (g.seen disk) own_mount.file) refused.fault))
   pub bad : g.tells disk ≡ true → (at : ℕ) → fault_of result ≡ Some (BadJournal at) → bad_place (g.seen disk) ≡ Some at
-  pub broken : g.tells disk ≡ true → (at : ℕ) → bad_place (g.seen disk) ≡ Some at → MatchResult result (λ _. ⊥) (λ refused. RefusesBroken at refused.fault)
-  pub unknown : g.tells disk ≡ true → (version : ℕ) → fault_of result ≡ Some (UnknownVersion version) → unknown_version (g.seen disk) ≡ Some version
-  pub known : g.tells disk ≡ true → (version : ℕ) → unknown_version (g.seen disk) ≡ Some version → MatchResult result (λ _. ⊥) (λ refused. RefusesUnknown version refused.fault)
+  pub broken : g.tells disk ≡ true → (at : ℕ) → bad_place (g.seen disk) ≡ Some at
+      → MatchResult result (λ _. ⊥) (λ refused. RefusesBroken at refused.fault)
+  pub unknown : g.tells disk ≡ true → (version : ℕ) → fault_of result ≡ Some (UnknownVersion version)
+      → unknown_version (g.seen disk) ≡ Some version
+  pub known : g.tells disk ≡ true → (version : ℕ) → unknown_version (g.seen disk) ≡ Some version
+      → MatchResult result (λ _. ⊥) (λ refused. RefusesUnknown version refused.fault)
   pub calm : WhereCalm g disk (λ files doubt.
       ((at : ℕ) → fault_of result ≡ Some (BadJournal at) → ⊥) × ((version : ℕ) → fault_of result ≡ Some (UnknownVersion version) → ⊥))
   pub cause : fault_of result ≡ Some DiskFault → HasRisen (g.faults disk) (g.faults (disk_of result))
   -- where the journals are at fault the disk is only read, or the former one is retired alone
-  pub stays : g.tells disk ≡ true → (fault : JournalFault) → found_in (g.seen disk) ≡ Err fault → IsKept (g.seen disk) → OnlyReads g disk (disk_of result)
-  pub retires : g.tells disk ≡ true → (fault : JournalFault) → found_in (g.seen disk) ≡ Err fault → ¬ IsKept (g.seen disk)
+  pub stays : g.tells disk ≡ true → (fault : JournalFault) → found_in (g.seen disk) ≡ Err fault → IsKept (g.seen disk)
+      → OnlyReads g disk (disk_of result)
+  pub retires : g.tells disk ≡ true → (fault : JournalFault) → found_in (g.seen disk) ≡ Err fault
+      → ¬ IsKept (g.seen disk)
       → IfErr result (λ refused. refused.fault ≢ DiskFault → refused.fault ≢ Memory → LeavesRetired g disk refused.disk)
   -- what it leaves, and what a crash amid it leaves
   pub calm_still : WhereCalm g disk (λ files doubt. ¬ HasRisen (g.faults disk) (g.faults (disk_of result)) → IsCalm (g.seen (disk_of result)) (g.may_leave (disk_of result)) files doubt)
@@ -97,5 +103,6 @@ pub record OpensFiles (formats : Formats) (Reads : Reading) (IsBad : Badness) {D
   pub wrote : IfOk result (λ opened. opened.core.wrote ≡ before.recovered)
   pub journal : IfOk result (λ opened. OnlyReadsFiles g before opened.core.journal)
   pub reads : OnlyReads g before.disk (disk_of result)
-  pub own : ((at : ℕ) → fault_of result ≡ Some (BadJournal at) → ⊥) × ((version : ℕ) → fault_of result ≡ Some (UnknownVersion version) → ⊥)
+  pub own : ((at : ℕ) → fault_of result ≡ Some (BadJournal at) → ⊥)
+      × ((version : ℕ) → fault_of result ≡ Some (UnknownVersion version) → ⊥)
   pub cause : fault_of result ≡ Some DiskFault → HasRisen (g.faults before.disk) (g.faults (disk_of result))

@@ -151,7 +151,9 @@ fn judge_set<F: Formats + Drop, P: Patterns>(
     keys: &KeySet,
     prepared: &Prepared,
 ) -> Result<Judged, Memory>
-    requires { (procs : ℕ → KeyMap) → conflict (store_of plan.now.mounted procs) history.old.commits (prepared_of prepared.now) ≡ None → MayRenew (formats_of F.Formats) (store_of plan.now.mounted procs) (after keys.now prepared.now.changes) prepared.now.touched }
+    requires { (procs : ℕ → KeyMap)
+        → conflict (store_of plan.now.mounted procs) history.old.commits (prepared_of prepared.now) ≡ None
+        → MayRenew (formats_of F.Formats) (store_of plan.now.mounted procs) (after keys.now prepared.now.changes) prepared.now.touched }
     ensures late { IfOk result (λ made. (procs : ℕ → KeyMap)
         → IsLate (formats_of F.Formats) (store_of plan.now.mounted procs) history.old.commits keys.now (prepared_of prepared.now) (late_of (has_risen (P.refusals patterns.old) (P.refusals patterns.new)) made.late)) }
     ensures renewed { IfOk result (λ made. (procs : ℕ → KeyMap) → BringsTexts (formats_of F.Formats) (store_of plan.now.mounted procs) made.keys prepared.now.touched made.late) }

@@ -37,7 +37,8 @@ impl<D: Disk, P: Patterns + Drop> Core<D, P> {
         parent: &KeyName,
     ) -> Result<Got, GetFault>
         requires places { length plan.now.mounted ≤ places_of rec.old }
-        ensures got { (procs : ℕ → KeyMap) (records : ℕ → model.Record) (prepared : ℕ → Option sets.Prepared) → procs (handle_of rec.old) ≡ proc_of rec.old → records (handle_of rec.old) ≡ record_of rec.old
+        ensures got { (procs : ℕ → KeyMap) (records : ℕ → model.Record) (prepared : ℕ → Option sets.Prepared)
+            → procs (handle_of rec.old) ≡ proc_of rec.old → records (handle_of rec.old) ≡ record_of rec.old
             → HasGot (formats_of F.Formats) (store_of plan.now.mounted procs) plan.now.mounted self.now records prepared parent.now rec.old rec.new result }
         ensures handle { handle_of rec.new ≡ handle_of rec.old }
         ensures places { places_of rec.new ≡ places_of rec.old }

@@ -29,7 +29,8 @@ pub fn a_core_stands_after_each_commit<D: Disk, F: Formats, P: Patterns + Drop>(
     after: &Core<D, P>,
     _formats: &F,
 )
-    ensures { (store : Store) (opened : D) (records next : ℕ → Record) (sets : ℕ → Option Prepared) (world : World) (run later : Run) (r p : ℕ) (answer : Answer)
+    ensures { (store : Store) (opened : D) (records next : ℕ → Record) (sets : ℕ → Option Prepared) (world : World)
+        (run later : Run) (r p : ℕ) (answer : Answer)
         → StandsFor (formats_of F.Formats) D.Disk store opened before.now records sets world run
         → IsCommitted (formats_of F.Formats) D.Disk store opened before.now after.now records next sets run later r p answer
         → (then_world : World) × Meant (formats_of F.Formats) store world (Commit r p) answer then_world
@@ -44,9 +45,11 @@ pub fn a_prepared_set_may_be_committed<D: Disk, F: Formats, P: Patterns + Drop>(
     prepared: &verdict::Prepared,
     _formats: &F,
 )
-    ensures { (store : Store) (records : ℕ → Record) (sets : ℕ → Option Prepared) (world : World) (p handle : ℕ) (before : Record) (parent : Name) (keys : KeyMap)
+    ensures { (store : Store) (records : ℕ → Record) (sets : ℕ → Option Prepared) (world : World) (p handle : ℕ)
+        (before : Record) (parent : Name) (keys : KeyMap)
         → StandsIn (formats_of F.Formats) store core.now records sets world
-        → records (handle_of rec.now) ≡ record_of rec.now → length store.mounts ≤ places_of rec.now → sets p ≡ Some (prepared_of prepared.now)
+        → records (handle_of rec.now) ≡ record_of rec.now → length store.mounts ≤ places_of rec.now
+        → sets p ≡ Some (prepared_of prepared.now)
         → accepts (record_of rec.now) (handle_of rec.now) (prepared_of prepared.now) ≡ true
         → IsMade (formats_of F.Formats) store handle before parent keys prepared.now
         → BelongsIn (formats_of F.Formats) store core.now records sets world p rec.now prepared.now }

@@ -28,8 +28,10 @@ pub(crate) fn mount_files<D: Disk, F: Formats>(
     ensures told { D.tells journal.old.disk ≡ true →
         MatchResult result (IsOpened F.reads F.is_bad_at (D.seen journal.old.disk)) (RefusesStore F.reads F.is_bad_at (D.seen journal.old.disk own_mount.file)) }
     ensures storable { IfOk result (AllCanBeWritten F.is_storable) }
-    ensures cause { result ≡ Err OpenFault.DiskFault → HasRisen (D.faults journal.old.disk) (D.faults journal.new.disk) }
-    ensures own { ((at : ℕ) → result ≡ Err (OpenFault.BadJournal at) → ⊥) × ((version : ℕ) → result ≡ Err (OpenFault.UnknownVersion version) → ⊥) }
+    ensures cause { result ≡ Err OpenFault.DiskFault
+        → HasRisen (D.faults journal.old.disk) (D.faults journal.new.disk) }
+    ensures own { ((at : ℕ) → result ≡ Err (OpenFault.BadJournal at) → ⊥)
+        × ((version : ℕ) → result ≡ Err (OpenFault.UnknownVersion version) → ⊥) }
     ensures reads { OnlyReadsFiles D.Disk journal.old journal.new }
 {
     let opening = begin(alloc, journal, formats)?;
@@ -46,8 +48,10 @@ fn begin<D: Disk, F: Formats>(
         MatchResult result (Begins F.reads F.is_bad_at (D.seen journal.old.disk)) (RefusesStore F.reads F.is_bad_at (D.seen journal.old.disk own_mount.file)) }
     ensures none { IfOk result (λ opening. opening.files ≡ []) }
     ensures storable { IfOk result (CanBeWrittenSoFar F.is_storable) }
-    ensures cause { result ≡ Err OpenFault.DiskFault → HasRisen (D.faults journal.old.disk) (D.faults journal.new.disk) }
-    ensures own { ((at : ℕ) → result ≡ Err (OpenFault.BadJournal at) → ⊥) × ((version : ℕ) → result ≡ Err (OpenFault.UnknownVersion version) → ⊥) }
+    ensures cause { result ≡ Err OpenFault.DiskFault
+        → HasRisen (D.faults journal.old.disk) (D.faults journal.new.disk) }
+    ensures own { ((at : ℕ) → result ≡ Err (OpenFault.BadJournal at) → ⊥)
+        × ((version : ℕ) → result ≡ Err (OpenFault.UnknownVersion version) → ⊥) }
     ensures reads { OnlyReadsFiles D.Disk journal.old journal.new }
 {
     let file = own_file(alloc)?;
@@ -66,7 +70,8 @@ fn mount_others<D: Disk, F: Formats>(
     ensures told { D.tells journal.old.disk ≡ true → Begins F.reads F.is_bad_at (D.seen journal.old.disk) opening
         → IfOk result (IsOpened F.reads F.is_bad_at (D.seen journal.old.disk)) }
     ensures storable { CanBeWrittenSoFar F.is_storable opening → IfOk result (AllCanBeWritten F.is_storable) }
-    ensures cause { result ≡ Err FileFault.DiskFault → HasRisen (D.faults journal.old.disk) (D.faults journal.new.disk) }
+    ensures cause { result ≡ Err FileFault.DiskFault
+        → HasRisen (D.faults journal.old.disk) (D.faults journal.new.disk) }
     ensures reads { OnlyReadsFiles D.Disk journal.old journal.new }
 {
     let mut opening = opening;
@@ -90,10 +95,12 @@ fn add_next<D: Disk, F: Formats>(
     requires { length opening.old.files < length (others opening.old) }
     ensures step { D.tells journal.old.disk ≡ true → Begins F.reads F.is_bad_at (D.seen journal.old.disk) opening.old
         → OnOk result (Begins F.reads F.is_bad_at (D.seen journal.old.disk) opening.new) }
-    ensures storable { CanBeWrittenSoFar F.is_storable opening.old → OnOk result (CanBeWrittenSoFar F.is_storable opening.new) }
+    ensures storable { CanBeWrittenSoFar F.is_storable opening.old
+        → OnOk result (CanBeWrittenSoFar F.is_storable opening.new) }
     ensures count { OnOk result (length opening.new.files ≡ length opening.old.files + 1) }
     ensures others { others opening.new ≡ others opening.old }
-    ensures cause { result ≡ Err FileFault.DiskFault → HasRisen (D.faults journal.old.disk) (D.faults journal.new.disk) }
+    ensures cause { result ≡ Err FileFault.DiskFault
+        → HasRisen (D.faults journal.old.disk) (D.faults journal.new.disk) }
     ensures reads { OnlyReadsFiles D.Disk journal.old journal.new }
 {
     let Some(mount) = opening.next() else {

@@ -115,8 +115,10 @@ fn first_state<D: Disk, F: Formats>(
     ensures keys { IfOk result (λ first. first.keys ≡ visible_keys first.mounted) }
     ensures start { IfOk result (λ first. first.start ≡ visible_keys first.mounted) }
     ensures none { IfOk result (λ first. first.history.commits ≡ []) }
-    ensures own { ((at : ℕ) → result ≡ Err (OpenFault.BadJournal at) → ⊥) × ((version : ℕ) → result ≡ Err (OpenFault.UnknownVersion version) → ⊥) }
-    ensures cause { result ≡ Err OpenFault.DiskFault → HasRisen (D.faults journal.old.disk) (D.faults journal.new.disk) }
+    ensures own { ((at : ℕ) → result ≡ Err (OpenFault.BadJournal at) → ⊥)
+        × ((version : ℕ) → result ≡ Err (OpenFault.UnknownVersion version) → ⊥) }
+    ensures cause { result ≡ Err OpenFault.DiskFault
+        → HasRisen (D.faults journal.old.disk) (D.faults journal.new.disk) }
     ensures reads { OnlyReadsFiles D.Disk journal.old journal.new }
 {
     let mounted = mount_files(alloc, journal, formats)?;

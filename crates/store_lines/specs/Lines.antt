@@ -76,7 +76,8 @@ bad_table Memory = out_of_memory
 
 -- a key, the rule that it breaks by its number, and the text that is given of it
 abbrev pub broken_rule : Violation → List ℕ
-broken_rule violation = shown violation.key ++ (codes " rule " ++ (decimal violation.rule ++ (codes " given " ++ quoted violation.given)))
+broken_rule violation =
+    shown violation.key ++ (codes " rule " ++ (decimal violation.rule ++ (codes " given " ++ quoted violation.given)))
 
 -- a set would break a rule
 abbrev pub invalid : Violation → List ℕ

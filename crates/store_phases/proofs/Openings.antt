@@ -22,8 +22,10 @@ use Rattle.store_phases.proofs.Resting.{not_both, rests_at}
 use Rattle.store_phases.proofs.Stores.{IsStore-new}
 
 -- a fresh journal over a disk with these files and this doubt, whichever names its head will have
-run_on : {D : Type 0} (g : Ghosts D) (journal : JournalValue D) (files : Image) (faults : ℕ) (doubt : Option (List FileText)) → g.tells journal.disk ≡ true → faults ≤ g.faults journal.disk → IsFresh journal
-    → IsHeadInDoubt (g.may_leave journal.disk) files doubt → IsCalm (g.seen journal.disk) (g.may_leave journal.disk) files doubt
+run_on : {D : Type 0} (g : Ghosts D) (journal : JournalValue D) (files : Image) (faults : ℕ)
+    (doubt : Option (List FileText)) → g.tells journal.disk ≡ true → faults ≤ g.faults journal.disk → IsFresh journal
+    → IsHeadInDoubt (g.may_leave journal.disk) files doubt
+    → IsCalm (g.seen journal.disk) (g.may_leave journal.disk) files doubt
     → (names : List (List ℕ)) → IsStore g journal.disk journal (new_run names files faults doubt)
 run_on g journal files faults doubt tells later fresh doubtful calm names =
     IsStore-new g journal names files faults doubt later
@@ -31,7 +33,8 @@ run_on g journal files faults doubt tells later fresh doubtful calm names =
 
 module _ {D : Type 0} (g : Ghosts D) (disk : D) where
   -- the run on the files that the opening leaves
-  pub opened_run : (result : Result (JournalValue D) (JournalRefused D)) → g.tells disk ≡ true → GoesOn g disk (disk_of result) → IfOk result IsFresh → IfOk result (HoldsOpened g disk)
+  pub opened_run : (result : Result (JournalValue D) (JournalRefused D)) → g.tells disk ≡ true
+      → GoesOn g disk (disk_of result) → IfOk result IsFresh → IfOk result (HoldsOpened g disk)
       → IfOk result (HasBegun g disk)
   opened_run (Ok journal) tells goes fresh holds = record {
     later = holds.later;
@@ -41,25 +44,32 @@ module _ {D : Type 0} (g : Ghosts D) (disk : D) where
   opened_run (Err refused) tells goes fresh holds = tt
 
   -- and on the calm disk's own files
-  pub opened_own_run : (result : Result (JournalValue D) (JournalRefused D)) (files : Image) (doubt : Option (List FileText)) → g.tells disk ≡ true → GoesOn g disk (disk_of result) → IfOk result IsFresh
-      → IfOk result (λ journal. IsHeadInDoubt (g.may_leave journal.disk) files doubt) → IfOk result (λ journal. IsCalm (g.seen journal.disk) (g.may_leave journal.disk) files doubt)
+  pub opened_own_run : (result : Result (JournalValue D) (JournalRefused D)) (files : Image)
+      (doubt : Option (List FileText)) → g.tells disk ≡ true → GoesOn g disk (disk_of result) → IfOk result IsFresh
+      → IfOk result (λ journal. IsHeadInDoubt (g.may_leave journal.disk) files doubt)
+      → IfOk result (λ journal. IsCalm (g.seen journal.disk) (g.may_leave journal.disk) files doubt)
       → IfOk result (λ journal. (names : List (List ℕ)) → IsStore g journal.disk journal (new_run names files (g.faults disk) doubt))
-  opened_own_run (Ok journal) files doubt tells goes fresh doubtful calm = run_on g journal files (g.faults disk) doubt (goes.tells ∙ tells) goes.later fresh doubtful calm
+  opened_own_run (Ok journal) files doubt tells goes fresh doubtful calm =
+      run_on g journal files (g.faults disk) doubt (goes.tells ∙ tells) goes.later fresh doubtful calm
   opened_own_run (Err refused) files doubt tells goes fresh doubtful calm = tt
 
   -- an opened journal's disk is calm
-  pub calm_behind : (result : Result (JournalValue D) (JournalRefused D)) (files : Image) (doubt : Option (List FileText))
+  pub calm_behind : (result : Result (JournalValue D) (JournalRefused D)) (files : Image)
+      (doubt : Option (List FileText))
       → (fault_of result ≢ Some DiskFault → IsCalm (g.seen (disk_of result)) (g.may_leave (disk_of result)) files doubt)
       → IfOk result (λ journal. IsCalm (g.seen journal.disk) (g.may_leave journal.disk) files doubt)
   calm_behind (Ok journal) files doubt calm = calm (λ is. cc)
   calm_behind (Err refused) files doubt calm = tt
 
   -- what is read behind it are the files that it leaves
-  pub shown_behind : (result : Result (JournalValue D) (JournalRefused D)) → g.tells disk ≡ true → GoesOn g disk (disk_of result) → IfOk result (HoldsOpened g disk)
+  pub shown_behind : (result : Result (JournalValue D) (JournalRefused D)) → g.tells disk ≡ true
+      → GoesOn g disk (disk_of result) → IfOk result (HoldsOpened g disk)
       → IfOk result (λ journal. SameFiles (g.seen journal.disk) (opened_files (g.seen disk)))
   shown_behind (Ok journal) tells goes holds = opened_shown g disk journal (goes.tells ∙ tells) holds
   shown_behind (Err refused) tells goes holds = tt
 
 -- what held of each crash since a moment holds of each that comes now
-pub rests_since : {D : Type 0} (g : Ghosts D) (old new : D) (P : Image → Type 0) → g.tells old ≡ true → GoesOn g old new → LeavesOnly g old new P → EveryImage (g.may_leave new) P
-rests_since g old new P tells goes only image is = only.each image (g.counts_now new (g.moment old) image (goes.tells ∙ tells) goes.moment is)
+pub rests_since : {D : Type 0} (g : Ghosts D) (old new : D) (P : Image → Type 0) → g.tells old ≡ true → GoesOn g old new
+    → LeavesOnly g old new P → EveryImage (g.may_leave new) P
+rests_since g old new P tells goes only image is =
+    only.each image (g.counts_now new (g.moment old) image (goes.tells ∙ tells) goes.moment is)

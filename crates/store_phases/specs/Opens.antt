@@ -24,7 +24,8 @@ use Rattle.store_phases.specs.Stores.{IsStore}
 pub record HasBegun {D : Type 0} (g : Ghosts D) (disk : D) (journal : JournalValue D) : Type 0 where
   pub later : Option (List FileText)
   pub may_be : MayBeLeft (g.seen disk) later
-  pub store : (names : List (List ℕ)) → IsStore g journal.disk journal (new_run names (opened_files (g.seen disk)) (g.faults disk) later)
+  pub store : (names : List (List ℕ))
+      → IsStore g journal.disk journal (new_run names (opened_files (g.seen disk)) (g.faults disk) later)
 
 pub record OpensRun {D : Type 0} (g : Ghosts D) (disk : D) (result : Result (JournalValue D) (JournalRefused D)) : Type 0 where
   -- a run begins on the files that the opening of a calm disk leaves, with what that leaves in doubt, and on the disk's
@@ -37,16 +38,22 @@ pub record OpensRun {D : Type 0} (g : Ghosts D) (disk : D) (result : Result (Jou
   pub fresh : IfOk result (λ journal. IsFresh journal)
   pub recovered : g.tells disk ≡ true → IfOk result (λ journal. journal.recovered ≡ has_any (open_list (g.seen disk)))
   -- a disk without an open entry and without a former journal is only read, and so it is before most refusals
-  pub reads : g.tells disk ≡ true → HasNoFormer (g.seen disk) → open_list (g.seen disk) ≡ [] → OnlyReads g disk (disk_of result)
-  pub kept : g.tells disk ≡ true → IsKept (g.seen disk) → IfErr result (λ refused. refused.fault ≢ DiskFault → OnlyReads g disk refused.disk)
-  pub stays : g.tells disk ≡ true → (fault : JournalFault) → found_in (g.seen disk) ≡ Err fault → IsKept (g.seen disk) → OnlyReads g disk (disk_of result)
+  pub reads : g.tells disk ≡ true → HasNoFormer (g.seen disk) → open_list (g.seen disk) ≡ []
+      → OnlyReads g disk (disk_of result)
+  pub kept : g.tells disk ≡ true → IsKept (g.seen disk)
+      → IfErr result (λ refused. refused.fault ≢ DiskFault → OnlyReads g disk refused.disk)
+  pub stays : g.tells disk ≡ true → (fault : JournalFault) → found_in (g.seen disk) ≡ Err fault → IsKept (g.seen disk)
+      → OnlyReads g disk (disk_of result)
   -- where there is a former journal, it is retired for good, also before the other one is refused
-  pub retired : g.tells disk ≡ true → ¬ HasNoFormer (g.seen disk) → IfOk result (λ journal. IsRetired (g.may_leave journal.disk))
-  pub retires : g.tells disk ≡ true → ¬ IsKept (g.seen disk) → IfErr result (λ refused. refused.fault ≢ DiskFault → refused.fault ≢ Memory → LeavesRetired g disk refused.disk)
+  pub retired : g.tells disk ≡ true → ¬ HasNoFormer (g.seen disk)
+      → IfOk result (λ journal. IsRetired (g.may_leave journal.disk))
+  pub retires : g.tells disk ≡ true → ¬ IsKept (g.seen disk)
+      → IfErr result (λ refused. refused.fault ≢ DiskFault → refused.fault ≢ Memory → LeavesRetired g disk refused.disk)
   -- why it is refused
   pub good : g.tells disk ≡ true → OnOk result (found_in (g.seen disk) ≡ Ok (open_list (g.seen disk)))
   pub bad : g.tells disk ≡ true → (at : ℕ) → fault_of result ≡ Some (BadJournal at) → bad_place (g.seen disk) ≡ Some at
-  pub unknown : g.tells disk ≡ true → (version : ℕ) → fault_of result ≡ Some (UnknownVersion version) → unknown_version (g.seen disk) ≡ Some version
+  pub unknown : g.tells disk ≡ true → (version : ℕ) → fault_of result ≡ Some (UnknownVersion version)
+      → unknown_version (g.seen disk) ≡ Some version
   pub calm : WhereCalm g disk (λ files doubt.
       ((at : ℕ) → fault_of result ≡ Some (BadJournal at) → ⊥) × ((version : ℕ) → fault_of result ≡ Some (UnknownVersion version) → ⊥))
   pub cause : fault_of result ≡ Some DiskFault → HasRisen (g.faults disk) (g.faults (disk_of result))

@@ -20,11 +20,13 @@ pub record IsStore {D : Type 0} (g : Ghosts D) (opened : D) (journal : JournalVa
   -- which was begun behind the last commit
   pub doubt_begun : IsBegun run.begun (length run.commits) run.doubt
   -- where the count of faults didn't rise since the run began, a disk whose gate is in doubt is calm
-  pub calm : journal.in_doubt ≡ true → ¬ HasRisen run.faults (g.faults journal.disk) → IsCalm (g.seen journal.disk) (g.may_leave journal.disk) (files_of run) run.doubt
+  pub calm : journal.in_doubt ≡ true → ¬ HasRisen run.faults (g.faults journal.disk)
+      → IsCalm (g.seen journal.disk) (g.may_leave journal.disk) (files_of run) run.doubt
   -- a crash at any moment since the opening leaves the files of a prefix of the commits, or these with one entry that
   -- was begun on it
   pub always : LeavesOnly g opened journal.disk (IsReached run.files run.commits run.begun)
 
 -- a journal stands for a run, and the header and the entry are those of that run
 abbrev pub WhereOfRun : {D : Type 0} → Ghosts D → JournalValue D → List ℕ → List FileText → (D → Run → Type 0) → Type 0
-WhereOfRun {D = D} g journal header files P = (opened : D) (run : Run) → IsStore g opened journal run → header ≡ header_bytes run.names → IsOfRun run.names files → P opened run
+WhereOfRun {D = D} g journal header files P =
+    (opened : D) (run : Run) → IsStore g opened journal run → header ≡ header_bytes run.names → IsOfRun run.names files → P opened run

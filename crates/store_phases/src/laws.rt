@@ -18,11 +18,13 @@ pub fn a_run_rests_between_its_calls<D: Disk>(journal: &Journal<D>)
 
 /// Where no fault came since a run began, its disk is calm: the next opening finds what it needs.
 pub fn a_run_without_a_fault_is_calm<D: Disk>(journal: &Journal<D>)
-    ensures { (opened : D) (run : Run) → IsStore D.Disk opened journal.now run → ¬ HasRisen run.faults (D.faults journal.now.disk)
+    ensures { (opened : D) (run : Run) → IsStore D.Disk opened journal.now run
+        → ¬ HasRisen run.faults (D.faults journal.now.disk)
         → IsCalm (D.seen journal.now.disk) (D.may_leave journal.now.disk) (files_of run) run.doubt }
 {}
 
 /// A run that stands since an opening stands since any later moment at which no call goes on.
 pub fn a_run_stands_from_now_on<D: Disk>(journal: &Journal<D>)
-    ensures { (opened : D) (run : Run) → IsStore D.Disk opened journal.now run → IsStore D.Disk journal.now.disk journal.now run }
+    ensures { (opened : D) (run : Run) → IsStore D.Disk opened journal.now run
+        → IsStore D.Disk journal.now.disk journal.now run }
 {}

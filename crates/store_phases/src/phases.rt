@@ -25,7 +25,8 @@ pub fn make_clean<D: Disk>(journal: &mut Journal<D>) -> Result<(), Failed>
     ensures ok { OnOk result ((journal.new.list ≡ []) × (journal.new.in_doubt ≡ false)) }
     ensures phase { IsPhase D.Disk journal.old journal.new result }
     ensures rests { StaysAtRest D.Disk journal.old journal.new }
-    ensures settled { (names : List (List ℕ)) (files : Image) (doubt : Option (List Item)) → IsResting D.Disk journal.old names files doubt
+    ensures settled { (names : List (List ℕ)) (files : Image) (doubt : Option (List Item))
+        → IsResting D.Disk journal.old names files doubt
         → OnOk result (IsSettled (D.may_leave journal.new.disk) files) }
 {
     journal.settle()?;

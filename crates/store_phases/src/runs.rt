@@ -62,7 +62,8 @@ pub fn commit<D: Disk>(
 pub fn flush<D: Disk>(journal: &mut Journal<D>) -> Result<bool, Failed>
     ensures none { journal.old.list ≡ [] → (journal.new ≡ journal.old) × (result ≡ Ok false) }
     ensures some { journal.old.list ≢ [] → IfOk result (λ wrote. wrote ≡ true) }
-    ensures store { (opened : D) (run : Run) → IsStore D.Disk opened journal.old run → IsStore D.Disk opened journal.new run }
+    ensures store { (opened : D) (run : Run) → IsStore D.Disk opened journal.old run
+        → IsStore D.Disk opened journal.new run }
     ensures settled { (opened : D) (run : Run) → IsStore D.Disk opened journal.old run → result ≡ Ok true
         → IsSettled (D.may_leave journal.new.disk) (files_of run) }
     ensures any_moment { (opened : D) (run : Run) → IsStore D.Disk opened journal.old run
@@ -89,9 +90,11 @@ pub fn read<D: Disk>(
     ensures seen { D.tells journal.old.disk ≡ true → IfOk result (IsWhole (D.seen journal.old.disk file.now)) }
     ensures short { IfOk result IsShort }
     ensures given { IfOk result (IsGiven D.Disk journal.old.disk file.now) }
-    ensures store { (opened : D) (run : Run) → IsStore D.Disk opened journal.old run → IsStore D.Disk opened journal.new run }
+    ensures store { (opened : D) (run : Run) → IsStore D.Disk opened journal.old run
+        → IsStore D.Disk opened journal.new run }
     ensures reads { OnlyReads D.Disk journal.old.disk journal.new.disk }
-    ensures cause { result ≡ Err FileFault.DiskFault → HasRisen (D.faults journal.old.disk) (D.faults journal.new.disk) }
+    ensures cause { result ≡ Err FileFault.DiskFault
+        → HasRisen (D.faults journal.old.disk) (D.faults journal.new.disk) }
 {
     journal.read_file(alloc, file)
 }
@@ -103,11 +106,15 @@ pub fn close<D: Disk>(journal: Journal<D>) -> D
         → LeavesOnly D.Disk opened result (IsReached run.files run.commits run.begun) }
     ensures now { (opened : D) (run : Run) → IsStore D.Disk opened journal run
         → EveryImage (D.may_leave result) (HasOnly (IsEither (files_of run) run.doubt)) }
-    ensures settled { (opened : D) (run : Run) → IsStore D.Disk opened journal run → ¬ HasRisen (D.faults journal.disk) (D.faults result)
+    ensures settled { (opened : D) (run : Run) → IsStore D.Disk opened journal run
+        → ¬ HasRisen (D.faults journal.disk) (D.faults result)
         → IsSettled (D.may_leave result) (files_of run) }
-    ensures calm { (opened : D) (run : Run) → IsStore D.Disk opened journal run → ¬ HasRisen (D.faults journal.disk) (D.faults result)
-        → (files : Image) (doubt : Option (List Item)) → IsEither files doubt (files_of run) → IsCalm (D.seen result) (D.may_leave result) files doubt }
-    ensures rests { (opened : D) (run : Run) → IsStore D.Disk opened journal run → RestsOn D.Disk result (files_of run) run.doubt }
+    ensures calm { (opened : D) (run : Run) → IsStore D.Disk opened journal run
+        → ¬ HasRisen (D.faults journal.disk) (D.faults result)
+        → (files : Image) (doubt : Option (List Item)) → IsEither files doubt (files_of run)
+        → IsCalm (D.seen result) (D.may_leave result) files doubt }
+    ensures rests { (opened : D) (run : Run) → IsStore D.Disk opened journal run
+        → RestsOn D.Disk result (files_of run) run.doubt }
     ensures goes { GoesOn D.Disk journal.disk result }
 {
     let mut journal = journal;

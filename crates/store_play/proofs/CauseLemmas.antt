@@ -19,13 +19,15 @@ use Rattle.store_play.specs.declared.events.Answer.TheVariants as told
 use Rattle.store_play.specs.declared.running.Ran.{Ran}
 
 -- a commit's answer has the causes that the commit tells
-pub commit_caused : (faults now refusals later : ℕ) (result : Result Done CommitFault) → ((front : ℕ) → result ≡ Err (fault.DiskFault front) → HasRisen faults now)
+pub commit_caused : (faults now refusals later : ℕ) (result : Result Done CommitFault)
+    → ((front : ℕ) → result ≡ Err (fault.DiskFault front) → HasRisen faults now)
     → ((violation : Violation) (front : ℕ) → result ≡ Err (fault.Invalid violation front) → violation.rule ≡ 6 → length violation.given ≤ longest_pattern → HasRisen refusals later)
     → IsCaused faults now refusals later (told.Committed result)
 commit_caused faults now refusals later (Ok done) cause refused = tt
 commit_caused faults now refusals later (Err (fault.Conflict mount by front)) cause refused = tt
 commit_caused faults now refusals later (Err (fault.FileTooLarge mount bytes front)) cause refused = tt
-commit_caused faults now refusals later (Err (fault.Invalid violation front)) cause refused = refused violation front refl
+commit_caused faults now refusals later (Err (fault.Invalid violation front)) cause refused =
+    refused violation front refl
 commit_caused faults now refusals later (Err (fault.DatabaseFull weight front)) cause refused = tt
 commit_caused faults now refusals later (Err (fault.HistoryFull weight front)) cause refused = tt
 commit_caused faults now refusals later (Err (fault.DiskFault front)) cause refused = cause front refl
@@ -38,9 +40,11 @@ module _ (first faults now last before refusals later end : ℕ) (began : first 
   failed risen = risen_still first now last (omega arith) ended (risen_since first faults now began risen)
 
   refused : HasRisen refusals later → HasRisen before end
-  refused risen = risen_still before later end (omega arith) last_told (risen_since before refusals later first_told risen)
+  refused risen =
+      risen_still before later end (omega arith) last_told (risen_since before refusals later first_told risen)
 
-  pub caused_over : (answer : Answer) → IsCaused faults now refusals later answer → IsCaused first last before end answer
+  pub caused_over : (answer : Answer) → IsCaused faults now refusals later answer
+      → IsCaused first last before end answer
   caused_over (told.Got result) caused = tt
   caused_over (told.Prepared result) caused = tt
   caused_over (told.Skipped why) caused = tt
@@ -53,19 +57,24 @@ module _ (first faults now last before refusals later end : ℕ) (began : first 
   caused_over (told.Committed (Err (fault.DiskFault front))) caused = failed caused
   caused_over (told.Committed (Err fault.Memory)) caused = tt
 
-  pub all_caused_over : (answers : List Answer) → All (IsCaused faults now refusals later) answers → All (IsCaused first last before end) answers
-  all_caused_over answers all = All-weaker (IsCaused faults now refusals later) (IsCaused first last before end) caused_over answers all
+  pub all_caused_over : (answers : List Answer) → All (IsCaused faults now refusals later) answers
+      → All (IsCaused first last before end) answers
+  all_caused_over answers all =
+      All-weaker (IsCaused faults now refusals later) (IsCaused first last before end) caused_over answers all
 
 -- one answer more
-pub caused_next : (faults now last refusals later end : ℕ) (answers more : List Answer) (answer : Answer) → faults ≤ now → now ≤ last → refusals ≤ later → later ≤ end → more ≡ answers ++ answer ∷ []
-    → All (IsCaused faults now refusals later) answers → IsCaused now last later end answer → All (IsCaused faults last refusals end) more
+pub caused_next : (faults now last refusals later end : ℕ) (answers more : List Answer) (answer : Answer) → faults ≤ now
+    → now ≤ last → refusals ≤ later → later ≤ end → more ≡ answers ++ answer ∷ []
+    → All (IsCaused faults now refusals later) answers → IsCaused now last later end answer
+    → All (IsCaused faults last refusals end) more
 caused_next faults now last refusals later end answers more answer went ended told last_told is all next =
     All-same (IsCaused faults last refusals end) more (answers ++ answer ∷ []) is (All-push (IsCaused faults last refusals end) answers answer
     (all_caused_over faults faults now last refusals refusals later end (omega arith) went ended (omega arith) told last_told answers all)
     (caused_over faults now last last refusals later end end went ended (omega arith) told last_told (omega arith) answer next))
 
 -- the answers of a run, from before its opening on
-pub caused_behind : {D P : Type 0} (g : Ghosts D) (refusals : P → ℕ) (disk opened : D) (patterns held : P) (result : Result (Ran D P) (OpenRefused D P)) → g.faults disk ≤ g.faults opened → refusals held ≡ refusals patterns
+pub caused_behind : {D P : Type 0} (g : Ghosts D) (refusals : P → ℕ) (disk opened : D) (patterns held : P)
+    (result : Result (Ran D P) (OpenRefused D P)) → g.faults disk ≤ g.faults opened → refusals held ≡ refusals patterns
     → GoesOn g opened (disk_of result) → IfOk result (λ ran. refusals held ≤ refusals ran.patterns)
     → IfOk result (λ ran. All (IsCaused (g.faults opened) (g.faults ran.disk) (refusals held) (refusals ran.patterns)) ran.answers)
     → IfOk result (λ ran. All (IsCaused (g.faults disk) (g.faults ran.disk) (refusals patterns) (refusals ran.patterns)) ran.answers)

@@ -32,7 +32,8 @@ flushed_none g core = record {
   goes = OnlyReads-goes_on g core.journal.disk core.journal.disk (OnlyReads-none g core.journal.disk);
 }
 
-pub flushed_then : {D P : Type 0} (g : Ghosts D) (old mid new : Core D P) → HasFlushed g old mid → HasFlushed g mid new → HasFlushed g old new
+pub flushed_then : {D P : Type 0} (g : Ghosts D) (old mid new : Core D P) → HasFlushed g old mid → HasFlushed g mid new
+    → HasFlushed g old new
 flushed_then g old mid new one two = record {
   history = two.history ∙ one.history;
   start = two.start ∙ one.start;
@@ -43,8 +44,11 @@ flushed_then g old mid new one two = record {
 }
 
 -- a step stands behind flushes, too
-pub stepped_flushed : (formats : Formats) {D P : Type 0} (g : Ghosts D) (files : List MountedFile) (procs : ℕ → KeyMap) (opened : D) (first : Stage) (event : Event) (told : Answer) (mid new : Core D P) (records : List Record) (places : List (Option Prepared))
-    → HasFlushed g mid new → Stepped formats g files procs opened first event told mid records places → Stepped formats g files procs opened first event told new records places
+pub stepped_flushed : (formats : Formats) {D P : Type 0} (g : Ghosts D) (files : List MountedFile) (procs : ℕ → KeyMap)
+    (opened : D) (first : Stage) (event : Event) (told : Answer) (mid new : Core D P) (records : List Record)
+    (places : List (Option Prepared))
+    → HasFlushed g mid new → Stepped formats g files procs opened first event told mid records places
+    → Stepped formats g files procs opened first event told new records places
 stepped_flushed formats g files procs opened first event told mid new records places flushed is =
     let core_is : core_with mid (records_of records) is.known ≡ core_with new (records_of records) is.known =
     ap₂ (λ (log : Log) (keys : KeyMap). record { history = log.commits; keys = keys; records = records_of records; sets = is.known }) (sym flushed.history) (sym flushed.keys) in

@@ -11,8 +11,11 @@ use Rattle.store_verdict.specs.RecordView.{record_of}
 use Rattle.store_verdict.specs.declared.prepared.Prepared.{Prepared}
 use Rattle.store_verdict.specs.declared.records.Record.{Record}
 
-pub each-next : {A : Type 0} (P : ℕ → A → Type 0) (xs : List A) (x : A) → ((i : ℕ) (y : A) → slice_get xs i ≡ Some y → P i y) → P (length xs) x → (i : ℕ) (y : A) → slice_get (xs ++ x ∷ []) i ≡ Some y → P i y
-each-next P xs x each new i y e = elim (last_or_before xs x y i e) [ inl h ↦ each i y h | inr h ↦ subst (λ n. P n y) (sym h.0) (subst (λ z. P (length xs) z) h.1 new) ]
+pub each-next : {A : Type 0} (P : ℕ → A → Type 0) (xs : List A) (x : A)
+    → ((i : ℕ) (y : A) → slice_get xs i ≡ Some y → P i y) → P (length xs) x → (i : ℕ) (y : A)
+    → slice_get (xs ++ x ∷ []) i ≡ Some y → P i y
+each-next P xs x each new i y e =
+    elim (last_or_before xs x y i e) [ inl h ↦ each i y h | inr h ↦ subst (λ n. P n y) (sym h.0) (subst (λ z. P (length xs) z) h.1 new) ]
 
 pub holds_nothing-next : (places : List (Option Prepared)) → HoldNothing places → HoldNothing (places ++ None ∷ [])
 holds_nothing-next [] none zero = refl
@@ -36,8 +39,10 @@ new-nothing records new = λ i r. each r i
             λ i. record { fetched = λ m. fetched m i; committed = committed i }
 
 pub held-nothing : (places : List (Option Prepared)) → HoldNothing places → (λ p. None) ≡ held_in places
-held-nothing places none = let all : (p : ℕ) → None ≡ held_in places p = λ p. sym (ap (option_map prepared_of) (none p)) in λ i p. all p i
+held-nothing places none =
+    let all : (p : ℕ) → None ≡ held_in places p = λ p. sym (ap (option_map prepared_of) (none p)) in λ i p. all p i
 
 -- the keys of a handle that is there
-pub proc_there : (procs : List KeyMap) (r : ℕ) (proc : KeyMap) → r < length procs → proc ≡ get_or procs r proc → procs_at procs r ≡ proc
+pub proc_there : (procs : List KeyMap) (r : ℕ) (proc : KeyMap) → r < length procs → proc ≡ get_or procs r proc
+    → procs_at procs r ≡ proc
 proc_there procs r proc lt is = ap (λ (o : Option KeyMap). unwrap_or o no_keys) (sym (at_place procs r proc lt is))

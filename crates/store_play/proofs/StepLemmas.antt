@@ -57,7 +57,9 @@ pub record Moves (old new : Record) : Type 0 where
   pub proc : proc_of new ≡ proc_of old
 
 -- a get writes nothing
-reads_on : (formats : Formats) (store : Store) (core next : cores.Core) (run : Run) (r : ℕ) (parent : Name) (answer : event.Answer) → Made formats store core (event.Get r parent) answer next → RunsOn formats store core.keys run None answer run
+reads_on : (formats : Formats) (store : Store) (core next : cores.Core) (run : Run) (r : ℕ) (parent : Name)
+    (answer : event.Answer) → Made formats store core (event.Get r parent) answer next
+    → RunsOn formats store core.keys run None answer run
 reads_on formats store core next run r parent event.Memory made = refl
 reads_on formats store core next run r parent (event.Bad m) made = refl
 reads_on formats store core next run r parent (event.Got front keys) made = refl
@@ -80,17 +82,20 @@ module _ (formats : Formats) {D P : Type 0} (g : Ghosts D) (files : List Mounted
   abbrev first : Stage
   first = stage_of core records places known run
 
-  pub skipped : (event : Event) (why : Skip) → IsSkipped first event why → Stepped formats g files procs opened first event (told.Skipped why) core records places
+  pub skipped : (event : Event) (why : Skip) → IsSkipped first event why
+      → Stepped formats g files procs opened first event (told.Skipped why) core records places
   skipped event why is = record { known = known; world = world; run = run; does = (is, refl); holds = h }
 
   -- a record stands in its place
   pub record_at : (r : ℕ) (rec : Record) → slice_get records r ≡ Some rec → records_of records r ≡ record_of rec
   record_at r rec there = ap (λ (o : Option Record). option_map_or record_of o model.no_record) there
 
-  pub record_is : (r : ℕ) (rec : Record) → slice_get records r ≡ Some rec → records_of records (handle_of rec) ≡ record_of rec
+  pub record_is : (r : ℕ) (rec : Record) → slice_get records r ≡ Some rec
+      → records_of records (handle_of rec) ≡ record_of rec
   record_is r rec there = ap (records_of records) (h.handles r rec there).number ∙ record_at r rec there
 
-  moved : (r : ℕ) (old new : Record) → slice_get records r ≡ Some old → r < length records → Moves old new → AreHandles files procs (set records r new)
+  moved : (r : ℕ) (old new : Record) → slice_get records r ≡ Some old → r < length records → Moves old new
+      → AreHandles files procs (set records r new)
   moved r old new there lt moves n rec =
       set-cases (λ (o : Option Record). o ≡ Some rec → IsHandle (length files) procs n rec) records r n new lt
       (λ same e.
@@ -104,7 +109,8 @@ module _ (formats : Formats) {D P : Type 0} (g : Ghosts D) (files : List Mounted
 
   -- ---- a get
 
-  pub got : (r : ℕ) (parent : Name) (old new : Record) (result : Result Got GetFault) → slice_get records r ≡ Some old → r < length records → Moves old new
+  pub got : (r : ℕ) (parent : Name) (old new : Record) (result : Result Got GetFault) → slice_get records r ≡ Some old
+      → r < length records → Moves old new
       → HasGot formats store files core (records_of records) known parent old new result
       → Stepped formats g files procs opened first (asked.Get r parent) (told.Got result) core (set records r new) places
   got r parent old new result there lt moves has =
@@ -138,10 +144,13 @@ module _ (formats : Formats) {D P : Type 0} (g : Ghosts D) (files : List Mounted
 
   module _ (r p : ℕ) (parent : Name) (keys : KeyMap) (rec : Record) (there : slice_get records r ≡ Some rec) where
     -- the set of the handle's record is that of its number
-    set_is : sets.prepared (points_of store) (handle_of rec) (record_of rec) parent keys ≡ set_made store first.core r parent keys
-    set_is = ap₂ (λ (n : ℕ) (x : model.Record). sets.prepared (points_of store) n x parent keys) (h.handles r rec there).number (sym (record_at r rec there))
+    set_is : sets.prepared (points_of store) (handle_of rec) (record_of rec) parent keys
+        ≡ set_made store first.core r parent keys
+    set_is =
+        ap₂ (λ (n : ℕ) (x : model.Record). sets.prepared (points_of store) n x parent keys) (h.handles r rec there).number (sym (record_at r rec there))
 
-    pub readied : (done : Unit {0}) (new : Prepared) → p < length places → IsMade formats store (handle_of rec) (record_of rec) parent keys new
+    pub readied : (done : Unit {0}) (new : Prepared) → p < length places
+        → IsMade formats store (handle_of rec) (record_of rec) parent keys new
         → Stepped formats g files procs opened first (asked.Prepare r p parent keys) (told.Prepared (Ok done)) core records (set places p (Some new))
     readied done new lt is_made =
         let is : prepared_of new ≡ set_made store first.core r parent keys = is_made.is ∙ set_is in
@@ -172,7 +181,9 @@ module _ (formats : Formats) {D P : Type 0} (g : Ghosts D) (files : List Mounted
           };
         }
       where
-        held_with : (new : Prepared) → p < length places → IsMade formats store (handle_of rec) (record_of rec) parent keys new → AreHeld formats store (put p (Some (prepared_of new)) known) (set places p (Some new))
+        held_with : (new : Prepared) → p < length places
+            → IsMade formats store (handle_of rec) (record_of rec) parent keys new
+            → AreHeld formats store (put p (Some (prepared_of new)) known) (set places p (Some new))
         held_with new lt is_made n one =
             set-cases (λ (o : Option (Option Prepared)). option_and_then (λ s. s) o ≡ Some one → IsHeld formats store (put p (Some (prepared_of new)) known n) one) places p n (Some new) lt
             (λ same e. subst (λ (x : Prepared). IsHeld formats store (put p (Some (prepared_of new)) known n) x) (some_is new one e) (record {
@@ -182,7 +193,8 @@ module _ (formats : Formats) {D P : Type 0} (g : Ghosts D) (files : List Mounted
             (λ other e. subst (λ (o : Option sets.Prepared). IsHeld formats store o one) (sym (put-other p n (Some (prepared_of new)) known other)) (h.held n one e))
 
     -- a set that isn't prepared changes nothing
-    unready_for : (why : PrepareFault) → IsRefused formats store (handle_of rec) (record_of rec) parent keys why → Stepped formats g files procs opened first (asked.Prepare r p parent keys) (told.Prepared (Err why)) core records places
+    unready_for : (why : PrepareFault) → IsRefused formats store (handle_of rec) (record_of rec) parent keys why
+        → Stepped formats g files procs opened first (asked.Prepare r p parent keys) (told.Prepared (Err why)) core records places
     unready_for why refused = record {
       known = known;
       world = world;
@@ -199,7 +211,8 @@ module _ (formats : Formats) {D P : Type 0} (g : Ghosts D) (files : List Mounted
       holds = h;
     }
 
-    pub unready : (why : PrepareFault) → UnlessMemory fault.Memory (IsRefused formats store (handle_of rec) (record_of rec) parent keys why) why
+    pub unready : (why : PrepareFault)
+        → UnlessMemory fault.Memory (IsRefused formats store (handle_of rec) (record_of rec) parent keys why) why
         → Stepped formats g files procs opened first (asked.Prepare r p parent keys) (told.Prepared (Err why)) core records places
     unready (fault.NotFetched mount) refused = unready_for (fault.NotFetched mount) (refused (λ e. cc))
     unready (fault.ValueTooLong key bytes) refused = unready_for (fault.ValueTooLong key bytes) (refused (λ e. cc))
@@ -232,7 +245,8 @@ module _ (formats : Formats) {D P : Type 0} (g : Ghosts D) (files : List Mounted
   held_there : (p : ℕ) (d : Option Prepared) → p < length places → held_at places p ≡ get_or places p d
   held_there p d lt = ap (λ (o : Option (Option Prepared)). option_and_then (λ s. s) o) (slice_get-get_or places p d lt)
 
-  kept_back : (r p : ℕ) (rec : Record) (place : Option Prepared) (why : Skip) → slice_get records r ≡ Some rec → held_at places p ≡ place → IsKeptBack rec place why → IsSkipped first (asked.Commit r p) why
+  kept_back : (r p : ℕ) (rec : Record) (place : Option Prepared) (why : Skip) → slice_get records r ≡ Some rec
+      → held_at places p ≡ place → IsKeptBack rec place why → IsSkipped first (asked.Commit r p) why
   kept_back r p rec place skip.NoHandle there is kept = absurd kept
   kept_back r p rec place skip.NoPlace there is kept = absurd kept
   kept_back r p rec place skip.NoSet there is kept = ap (λ (o : Option Prepared). option_map prepared_of o) (is ∙ kept)
@@ -244,13 +258,15 @@ module _ (formats : Formats) {D P : Type 0} (g : Ghosts D) (files : List Mounted
         (subst (λ (x : model.Record). accepts x (handle_of rec) (prepared_of one) ≡ false) (sym (record_at r rec there)) kept);
   }
 
-  pub declined : (r p : ℕ) (rec : Record) (place d : Option Prepared) (why : Skip) → slice_get records r ≡ Some rec → p < length places → IsKeptBack rec (get_or places p d) why → place ≡ get_or places p d
+  pub declined : (r p : ℕ) (rec : Record) (place d : Option Prepared) (why : Skip) → slice_get records r ≡ Some rec
+      → p < length places → IsKeptBack rec (get_or places p d) why → place ≡ get_or places p d
       → Stepped formats g files procs opened first (asked.Commit r p) (told.Skipped why) core records (set places p place)
   declined r p rec place d why there lt kept same =
       subst (λ (ps : List (Option Prepared)). Stepped formats g files procs opened first (asked.Commit r p) (told.Skipped why) core records ps) (sym (ap (set places p) same ∙ set-get_or places p d))
       (skipped (asked.Commit r p) why (kept_back r p rec (get_or places p d) why there (held_there p d lt) kept))
 
-  pub held_by : (p : ℕ) (d : Option Prepared) (prepared : Prepared) → p < length places → get_or places p d ≡ Some prepared → held_at places p ≡ Some prepared
+  pub held_by : (p : ℕ) (d : Option Prepared) (prepared : Prepared) → p < length places
+      → get_or places p d ≡ Some prepared → held_at places p ≡ Some prepared
   held_by p d prepared lt is = held_there p d lt ∙ is
 
   module _ (r p : ℕ) (old : Record) (prepared : Prepared) (there : slice_get records r ≡ Some old) (is_held : held_at places p ≡ Some prepared) (accepted : accepts (record_of old) (handle_of old) (prepared_of prepared) ≡ true) where
@@ -264,7 +280,8 @@ module _ (formats : Formats) {D P : Type 0} (g : Ghosts D) (files : List Mounted
     pub belongs : Belongs formats g store opened core (records_of records) known world run p old prepared
     belongs = record { here = belongs_here; on_disk = h.stands.on_disk; names = h.stands.names }
 
-    committed : (after : Core D P) (new : Record) (risen : Bool) (result : Result Done CommitFault) → r < length records → p < length places → Moves old new
+    committed : (after : Core D P) (new : Record) (risen : Bool) (result : Result Done CommitFault) → r < length records
+        → p < length places → Moves old new
         → HasAnswered formats g store opened core after (records_of records) known run p old new prepared risen result
         → Stepped formats g files procs opened first (asked.Commit r p) (told.Committed result) after (set records r new) (set places p None)
     committed after new risen result lt free moves has =
@@ -295,7 +312,8 @@ module _ (formats : Formats) {D P : Type 0} (g : Ghosts D) (files : List Mounted
             (λ same e. absurd cc)
             (λ other e. h.held n one e)
 
-    pub committed_so : (after : Core D P) (new : Record) (risen : Bool) (result : Result Done CommitFault) (place : Option Prepared) → place ≡ None → r < length records → p < length places → Moves old new
+    pub committed_so : (after : Core D P) (new : Record) (risen : Bool) (result : Result Done CommitFault)
+        (place : Option Prepared) → place ≡ None → r < length records → p < length places → Moves old new
         → HasAnswered formats g store opened core after (records_of records) known run p old new prepared risen result
         → Stepped formats g files procs opened first (asked.Commit r p) (told.Committed result) after (set records r new) (set places p place)
     committed_so after new risen result place free lt there_is moves has =

@@ -10,5 +10,6 @@ use Rattle.store_play.specs.declared.events.Answer.TheVariants.{Committed}
 -- an answer has its cause, by the disk's count of faults and the matcher's count of refusals, each before and after
 abbrev pub IsCaused : ℕ → ℕ → ℕ → ℕ → Answer → Type 0
 IsCaused faults now refusals later (Committed (Err (DiskFault front))) = HasRisen faults now
-IsCaused faults now refusals later (Committed (Err (Invalid violation front))) = violation.rule ≡ 6 → length violation.given ≤ longest_pattern → HasRisen refusals later
+IsCaused faults now refusals later (Committed (Err (Invalid violation front))) =
+    violation.rule ≡ 6 → length violation.given ≤ longest_pattern → HasRisen refusals later
 IsCaused faults now refusals later answer = Unit {0}

@@ -50,7 +50,8 @@ pub record IsHandle (mounts : ℕ) (procs : ℕ → KeyMap) (r : ℕ) (rec : Rec
   pub proc : procs r ≡ proc_of rec
 
 abbrev pub AreHandlesOf : ℕ → (ℕ → KeyMap) → List Record → Type 0
-AreHandlesOf mounts procs records = (r : ℕ) (rec : Record) → slice_get records r ≡ Some rec → IsHandle mounts procs r rec
+AreHandlesOf mounts procs records =
+    (r : ℕ) (rec : Record) → slice_get records r ≡ Some rec → IsHandle mounts procs r rec
 
 abbrev pub AreHandles : List MountedFile → (ℕ → KeyMap) → List Record → Type 0
 AreHandles files procs records = AreHandlesOf (length files) procs records
@@ -80,7 +81,8 @@ pub record IsHeld (formats : Formats) (store : Store) (known : Option sets.Prepa
   pub was_made : WasMade formats store set
 
 abbrev pub AreHeld : Formats → Store → (ℕ → Option sets.Prepared) → List (Option Prepared) → Type 0
-AreHeld formats store known places = (p : ℕ) (set : Prepared) → held_at places p ≡ Some set → IsHeld formats store (known p) set
+AreHeld formats store known places =
+    (p : ℕ) (set : Prepared) → held_at places p ≡ Some set → IsHeld formats store (known p) set
 
 -- a core with the records of some handles, and the sets that were prepared, stands for a world and for a run on the
 -- disk

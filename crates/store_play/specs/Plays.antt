@@ -68,14 +68,16 @@ Does formats store files before event told after = Calls formats store files bef
 -- events with their answers, one after the other
 abbrev pub Plays : Formats → Store → List MountedFile → Stage → List Event → List Answer → Stage → Type 0
 Plays formats store files first [] [] last = last ≡ first
-Plays formats store files first (event ∷ events) (told ∷ answers) last = (mid : Stage) × Does formats store files first event told mid × Plays formats store files mid events answers last
+Plays formats store files first (event ∷ events) (told ∷ answers) last =
+    (mid : Stage) × Does formats store files first event told mid × Plays formats store files mid events answers last
 Plays formats store files first events answers last = ⊥
 
 -- the calls that the events made
 abbrev pub AreCalls : List MountedFile → List Event → List Answer → List (event.Event × event.Answer) → Type 0
 AreCalls files [] [] calls = calls ≡ []
 AreCalls files (event ∷ events) (Skipped why ∷ answers) calls = AreCalls files events answers calls
-AreCalls files (event ∷ events) (told ∷ answers) (call ∷ calls) = (call.0 ≡ asked_of event) × Tells files event told call.1 × AreCalls files events answers calls
+AreCalls files (event ∷ events) (told ∷ answers) (call ∷ calls) =
+    (call.0 ≡ asked_of event) × Tells files event told call.1 × AreCalls files events answers calls
 AreCalls files events answers calls = ⊥
 
 -- what a step leaves: an event was played, and the core stands again
@@ -100,5 +102,6 @@ pub record HasPlayed (formats : Formats) {D P : Type 0} (g : Ghosts D) (files : 
   pub calls : List (event.Event × event.Answer)
   pub are_calls : AreCalls files events answers calls
   pub runs : Runs (Made formats (store_of files procs)) first.core calls (core_with core (records_of records) stood.known)
-  pub one_owner : (earlier : List (event.Event × event.Answer)) → Runs (Made formats (store_of files procs)) (first_core (store_of files procs)) earlier first.core
+  pub one_owner : (earlier : List (event.Event × event.Answer))
+      → Runs (Made formats (store_of files procs)) (first_core (store_of files procs)) earlier first.core
       → IsOneOwner formats (store_of files procs) (earlier ++ calls) (core_with core (records_of records) stood.known)

@@ -41,7 +41,8 @@ use Rattle.store_play.specs.declared.running.Ran.{Ran}
 
 -- a store that was just opened, with so many handles and places for sets
 abbrev pub first_stage : Store → Run → ℕ → ℕ → Stage
-first_stage store run handles places = record { core = first_core store; run = run; held = λ p. None; handles = handles; places = places }
+first_stage store run handles places =
+    record { core = first_core store; run = run; held = λ p. None; handles = handles; places = places }
 
 -- the store of some mounted files whose handles have these keys in `proc`
 abbrev pub store_with : List MountedFile → List KeyMap → Store
@@ -64,8 +65,10 @@ pub record HasRunOpened (formats : Formats) {D P : Type 0} (g : Ghosts D) (mount
   pub played : HasPlayedNew formats g mounted procs places opened first events ran.answers core
   pub history : ran.history.commits ≡ core.history.commits
   pub reached : LeavesOnly g opened ran.disk (IsReached played.last.run.files played.last.run.commits played.last.run.begun)
-  pub shown : ¬ HasRisen played.last.run.faults (g.faults ran.disk) → SameFiles (g.seen ran.disk) (files_of played.last.run)
-  pub calm : ¬ HasRisen played.last.run.faults (g.faults ran.disk) → IsCalm (g.seen ran.disk) (g.may_leave ran.disk) (files_of played.last.run) played.last.run.doubt
+  pub shown : ¬ HasRisen played.last.run.faults (g.faults ran.disk)
+      → SameFiles (g.seen ran.disk) (files_of played.last.run)
+  pub calm : ¬ HasRisen played.last.run.faults (g.faults ran.disk)
+      → IsCalm (g.seen ran.disk) (g.may_leave ran.disk) (files_of played.last.run) played.last.run.doubt
   pub now : EveryImage (g.may_leave ran.disk) (HasOnly (IsEither (files_of played.last.run) played.last.run.doubt))
 
 -- the disk of a run, or the one that was handed back
@@ -83,7 +86,8 @@ CrashesCalm g disk = EveryImage (g.may_leave disk) StandsForOne
 
 -- an image that stands for what a calm disk stood for, or for what a run reached
 abbrev pub WasOrReached : Image → Option (List FileText) → Run → Image → Type 0
-WasOrReached files doubt run image = HasOnly (IsEither files doubt) image ⊎ IsReached run.files run.commits run.begun image
+WasOrReached files doubt run image =
+    HasOnly (IsEither files doubt) image ⊎ IsReached run.files run.commits run.begun image
 
 -- the events were played from the opening to the close, behind a run that began as the first one. The calls that they
 -- made are those of one owner. A crash at any moment since the disk was handed in leaves what it stood for then, or the
@@ -101,13 +105,15 @@ pub record HasRun (formats : Formats) {D P : Type 0} (g : Ghosts D) (mounted : L
   pub any_moment : LeavesOnly g disk ran.disk (WasOrReached files doubt last.run)
   pub now : EveryImage (g.may_leave ran.disk) (HasOnly (IsEither (files_of last.run) last.run.doubt))
   pub shown : ¬ HasRisen first.faults (g.faults ran.disk) → SameFiles (g.seen ran.disk) (files_of last.run)
-  pub calm : ¬ HasRisen first.faults (g.faults ran.disk) → IsCalm (g.seen ran.disk) (g.may_leave ran.disk) (files_of last.run) last.run.doubt
+  pub calm : ¬ HasRisen first.faults (g.faults ran.disk)
+      → IsCalm (g.seen ran.disk) (g.may_leave ran.disk) (files_of last.run) last.run.doubt
 
 -- ---- what the calls promise, by their answers
 
 -- whatever files a calm disk has, and whatever is in doubt on it
 abbrev pub FromCalm : {D : Type 0} → Ghosts D → D → (Image → Option (List FileText) → Type 0) → Type 0
-FromCalm g disk P = (files : Image) (doubt : Option (List FileText)) → IsCalm (g.seen disk) (g.may_leave disk) files doubt → P files doubt
+FromCalm g disk P =
+    (files : Image) (doubt : Option (List FileText)) → IsCalm (g.seen disk) (g.may_leave disk) files doubt → P files doubt
 
 -- the run that begins on the files that the journals of a disk leave, with what they leave in doubt, under a head with
 -- some names
@@ -116,7 +122,8 @@ opened_run g disk later names = new_run names (opened_files (g.seen disk)) (g.fa
 
 -- one that may begin so has a property
 abbrev pub ForOpenedRun : {D : Type 0} → Ghosts D → D → ((List (List ℕ) → Run) → Type 0) → Type 0
-ForOpenedRun g disk Property = (later : Option (List FileText)) × MayBeLeft (g.seen disk) later × Property (opened_run g disk later)
+ForOpenedRun g disk Property =
+    (later : Option (List FileText)) × MayBeLeft (g.seen disk) later × Property (opened_run g disk later)
 
 -- events were played on the store of some opened files, behind a run that began as the first one, under a head that
 -- names the files of the store
@@ -145,18 +152,22 @@ pub record RunsStore (formats : Formats) (Reads : Reading) (IsBad : Badness) {D 
 
 -- a core that was just opened stands for a run
 abbrev pub StandsNew : Formats → {D P : Type 0} → Ghosts D → List MountedFile → List KeyMap → Core D P → D → Run → Type 0
-StandsNew formats g mounted procs core start run = StandsFor formats g (store_with mounted procs) start core (λ r. no_record) (λ p. None) first_world run
+StandsNew formats g mounted procs core start run =
+    StandsFor formats g (store_with mounted procs) start core (λ r. no_record) (λ p. None) first_world run
 
 -- of the run of a store that was just opened
 pub record RunsOpened (formats : Formats) {D P : Type 0} (g : Ghosts D) (refusals : P → ℕ) (mounted : List MountedFile) (procs : List KeyMap) (places : ℕ) (events : List Event) (core : Core D P) (result : Result (Ran D P) (OpenRefused D P)) : Type 0 where
-  pub ran : (start : D) (run : Run) → StandsNew formats g mounted procs core start run → IfOk result (HasRunOpened formats g mounted procs places start run events)
+  pub ran : (start : D) (run : Run) → StandsNew formats g mounted procs core start run
+      → IfOk result (HasRunOpened formats g mounted procs places start run events)
   pub sound : CrashesCalm g (disk_of result)
   pub causes : IfOk result (λ ran. All (IsCaused (g.faults core.journal.disk) (g.faults ran.disk) (refusals core.patterns) (refusals ran.patterns)) ran.answers)
   pub later : IfOk result (λ ran. refusals core.patterns ≤ refusals ran.patterns)
   pub refused : IfErr result (λ refused. refused.fault ≡ Memory)
   pub patterns : IfErr result (λ refused. refused.patterns ≡ core.patterns)
-  pub reached : (start : D) (run : Run) → StandsNew formats g mounted procs core start run → IfErr result (λ refused. LeavesOnly g start refused.disk (IsReached run.files run.commits run.begun))
-  pub still : (start : D) (run : Run) (files : Image) (doubt : Option (List FileText)) → StandsNew formats g mounted procs core start run → IsFresh core.journal → IsEither files doubt (files_of run)
+  pub reached : (start : D) (run : Run) → StandsNew formats g mounted procs core start run
+      → IfErr result (λ refused. LeavesOnly g start refused.disk (IsReached run.files run.commits run.begun))
+  pub still : (start : D) (run : Run) (files : Image) (doubt : Option (List FileText))
+      → StandsNew formats g mounted procs core start run → IsFresh core.journal → IsEither files doubt (files_of run)
       → IfErr result (λ refused. ¬ HasRisen (g.faults core.journal.disk) (g.faults refused.disk) → IsCalm (g.seen core.journal.disk) (g.may_leave core.journal.disk) files doubt
       → IsCalm (g.seen refused.disk) (g.may_leave refused.disk) files doubt)
   pub goes : GoesOn g core.journal.disk (disk_of result)

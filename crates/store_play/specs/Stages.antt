@@ -21,7 +21,14 @@ pub record Stage : Type 0 where
   pub places : ℕ
 
 abbrev pub stage_of : {D P : Type 0} → Core D P → List Record → List (Option Prepared) → (ℕ → Option sets.Prepared) → Run → Stage
-stage_of core records places known run = record { core = core_with core (records_of records) known; run = run; held = held_in places; handles = length records; places = length places }
+stage_of core records places known run =
+    record {
+      core = core_with core (records_of records) known;
+      run = run;
+      held = held_in places;
+      handles = length records;
+      places = length places;
+    }
 
 -- the set that an event is about
 abbrev pub set_asked : (ℕ → Option sets.Prepared) → event.Event → Option sets.Prepared

@@ -30,7 +30,8 @@ mounts_of files = over (λ file. file.mount) files
 -- the answer to a prepare; a mount is told by its mountpoint
 abbrev pub IsReady : List Mount → Result (Unit {0}) PrepareFault → event.Answer → Type 0
 IsReady mounts (Ok done) answer = answer ≡ event.Ready
-IsReady mounts (Err why) answer = ((why ≡ fault.Memory) × (answer ≡ event.Memory)) ⊎ ((early : Early) × (fault_of mounts early ≡ Some why) × (answer ≡ event.Refused early))
+IsReady mounts (Err why) answer =
+    ((why ≡ fault.Memory) × (answer ≡ event.Memory)) ⊎ ((early : Early) × (fault_of mounts early ≡ Some why) × (answer ≡ event.Refused early))
 
 -- the answer to a commit of some set, where so many commits were found, and the matcher's count of refusals rose or not
 pub record IsDone (mounts : List Mount) (result : Result Done CommitFault) (answer : event.Answer) : Type 0 where

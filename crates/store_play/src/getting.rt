@@ -31,7 +31,8 @@ pub(crate) fn play_get<D: Disk, F: Formats + Drop, P: Patterns + Drop>(
     parent: &KeyName,
 ) -> Answer
     requires handles { (procs : ℕ → KeyMap) × AreHandles plan.now.mounted procs records.old }
-    ensures stepped { (procs : ℕ → KeyMap) (opened : D) (places : List (Option Prepared)) (known : ℕ → Option sets.Prepared) (world : World) (run : Run)
+    ensures stepped { (procs : ℕ → KeyMap) (opened : D) (places : List (Option Prepared))
+        (known : ℕ → Option sets.Prepared) (world : World) (run : Run)
         → Holds (formats_of F.Formats) D.Disk plan.now.mounted procs opened core.now records.old places known world run
         → Stepped (formats_of F.Formats) D.Disk plan.now.mounted procs opened (stage_of core.now records.old places known run) (event.Get handle parent.now) result core.now records.new places }
     ensures cause { (faults now refusals later : ℕ) → IsCaused faults now refusals later result }

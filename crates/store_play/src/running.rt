@@ -66,7 +66,8 @@ fn run_opened<D: Disk, F: Formats + Drop, P: Patterns + Drop>(
     events: &[Event],
     flushes: &[usize],
 ) -> Result<Ran<D, P>, OpenRefused<D, P>>
-    requires stands { (start : D) × (run : Run) × StandsNew (formats_of F.Formats) D.Disk opened.plan.mounted procs.now opened.core start run }
+    requires stands { (start : D) × (run : Run)
+        × StandsNew (formats_of F.Formats) D.Disk opened.plan.mounted procs.now opened.core start run }
     requires few { length procs.now < 2 ^ 32 }
     requires proc { AllByRecursion AreProc procs.now }
     ensures { RunsOpened (formats_of F.Formats) D.Disk P.refusals opened.plan.mounted procs.now places events.now opened.core result }
@@ -113,10 +114,12 @@ fn play_new<D: Disk, F: Formats + Drop, P: Patterns + Drop>(
     flushes: &[usize],
     told: &mut Flushes,
 ) -> Result<List<Answer>, Memory>
-    requires stands { (opened : D) × (run : Run) × StandsNew (formats_of F.Formats) D.Disk plan.now.mounted procs.now core.old opened run }
+    requires stands { (opened : D) × (run : Run)
+        × StandsNew (formats_of F.Formats) D.Disk plan.now.mounted procs.now core.old opened run }
     requires few { length procs.now < 2 ^ 32 }
     requires proc { AllByRecursion AreProc procs.now }
-    ensures played { (opened : D) (run : Run) → StandsNew (formats_of F.Formats) D.Disk plan.now.mounted procs.now core.old opened run
+    ensures played { (opened : D) (run : Run)
+        → StandsNew (formats_of F.Formats) D.Disk plan.now.mounted procs.now core.old opened run
         → IfOk result (λ answers. HasPlayedNew (formats_of F.Formats) D.Disk plan.now.mounted procs.now places opened run events.now answers core.new) }
     ensures causes { IfOk result (All (IsCaused (D.faults core.old.journal.disk) (D.faults core.new.journal.disk) (P.refusals core.old.patterns) (P.refusals core.new.patterns))) }
     ensures goes { GoesOn D.Disk core.old.journal.disk core.new.journal.disk }

@@ -25,13 +25,16 @@ abbrev pub changed_in : (ℕ → KeyMap) → List (ℕ × KeyMap) → Name → O
 changed_in before [] q = None
 changed_in before (part ∷ parts) q = option_or (changed_in before parts q) (change_at (before part.0) part.1 q)
 
-pub changed_in-snoc : (before : ℕ → KeyMap) (parts : List (ℕ × KeyMap)) (part : ℕ × KeyMap) (q : Name) → changed_in before (parts ++ part ∷ []) q ≡ option_or (change_at (before part.0) part.1 q) (changed_in before parts q)
+pub changed_in-snoc : (before : ℕ → KeyMap) (parts : List (ℕ × KeyMap)) (part : ℕ × KeyMap) (q : Name)
+    → changed_in before (parts ++ part ∷ []) q
+    ≡ option_or (change_at (before part.0) part.1 q) (changed_in before parts q)
 changed_in-snoc before [] part q = sym (or_none (change_at (before part.0) part.1 q))
 changed_in-snoc before (first ∷ parts) part q =
     ap (λ o. option_or o (change_at (before first.0) first.1 q)) (changed_in-snoc before parts part q)
     ∙ or_assoc (change_at (before part.0) part.1 q) (changed_in before parts q) (change_at (before first.0) first.1 q)
 
-find-changes : (before wanted : ℕ → KeyMap) (ms : List ℕ) (q : Name) → find name_cmp q (changes_of before wanted ms) ≡ changed_in before (over (λ m. (m, wanted m)) ms) q
+find-changes : (before wanted : ℕ → KeyMap) (ms : List ℕ) (q : Name)
+    → find name_cmp q (changes_of before wanted ms) ≡ changed_in before (over (λ m. (m, wanted m)) ms) q
 find-changes before wanted [] q = refl
 find-changes before wanted (m ∷ ms) q =
     find-both name_cmp (changes_of before wanted ms) (map.entries (difference (before m) (wanted m))) q
@@ -39,12 +42,16 @@ find-changes before wanted (m ∷ ms) q =
     ∙ ap (option_or (changed_in before (over (λ n. (n, wanted n)) ms) q)) (sym (map.get-entries (difference (before m) (wanted m)) q) ∙ get-difference (before m) (wanted m) q)
 
 -- the changes of the parts of some mounts
-pub are-changes : (before wanted : ℕ → KeyMap) (ms : List ℕ) (changes : Changes) → ((q : Name) → map.get changes q ≡ changed_in before (over (λ m. (m, wanted m)) ms) q) → changes ≡ changes_at before wanted ms
+pub are-changes : (before wanted : ℕ → KeyMap) (ms : List ℕ) (changes : Changes)
+    → ((q : Name) → map.get changes q ≡ changed_in before (over (λ m. (m, wanted m)) ms) q)
+    → changes ≡ changes_at before wanted ms
 are-changes before wanted ms changes each = map.same_map name_cmp_total name_cmp-IsAntisymmetric _ _ (λ q.
     each q ∙ sym (map.get-from_entries name_cmp_total (changes_of before wanted ms) q ∙ find-changes before wanted ms q))
 
 -- the parts of the mounts that differ
-pub filter-parts : (rec : Record) (wanted : ℕ → KeyMap) (ms : List ℕ) → filter (differs_at rec) (over (λ m. (m, wanted m)) ms) ≡ over (λ m. (m, wanted m)) (filter (differs (kept rec) wanted) ms)
+pub filter-parts : (rec : Record) (wanted : ℕ → KeyMap) (ms : List ℕ)
+    → filter (differs_at rec) (over (λ m. (m, wanted m)) ms)
+    ≡ over (λ m. (m, wanted m)) (filter (differs (kept rec) wanted) ms)
 filter-parts rec wanted [] = refl
 filter-parts rec wanted (m ∷ ms) = elim (not (same_keys (wanted m) (kept rec m))) as (λ b. cond b ((m, wanted m) ∷ filter (differs_at rec) (over (λ n. (n, wanted n)) ms)) (filter (differs_at rec) (over (λ n. (n, wanted n)) ms)) ≡ over (λ n. (n, wanted n)) (cond b (m ∷ filter (differs (kept rec) wanted) ms) (filter (differs (kept rec) wanted) ms))) [
   | true ↦ ap (λ l. (m, wanted m) ∷ l) (filter-parts rec wanted ms)

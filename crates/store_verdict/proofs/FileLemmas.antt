@@ -38,28 +38,36 @@ use Rattle.store_verdict.proofs.PartLemmas.{contents-is, cut, heavy-all, long-al
 
 -- ---- a fault that is handed on
 
-pub handed-on : {A : Type 0} (Q : A → Type 0) (P : PrepareFault → Type 0) (r : Result A PrepareFault) (why : PrepareFault) → IsErrAnd r (λ fault. fault ≡ why) → P why → MatchResult r Q P
+pub handed-on : {A : Type 0} (Q : A → Type 0) (P : PrepareFault → Type 0) (r : Result A PrepareFault)
+    (why : PrepareFault) → IsErrAnd r (λ fault. fault ≡ why) → P why → MatchResult r Q P
 handed-on Q P (Ok x) why is holds = absurd is
 handed-on Q P (Err fault) why is holds = subst P (sym is) holds
 
-pub handed-err : {A : Type 0} (P : PrepareFault → Type 0) (r : Result A PrepareFault) (why : PrepareFault) → IsErrAnd r (λ fault. fault ≡ why) → P why → IfErr r P
+pub handed-err : {A : Type 0} (P : PrepareFault → Type 0) (r : Result A PrepareFault) (why : PrepareFault)
+    → IsErrAnd r (λ fault. fault ≡ why) → P why → IfErr r P
 handed-err P (Ok x) why is holds = absurd is
 handed-err P (Err fault) why is holds = subst P (sym is) holds
 
 -- ---- the first of which something is told
 
-pub told-first : {A : Type 0} (mounts : List Mount) (f : A → Option Early) (xs : List A) (k : ℕ) (x : A) (why : PrepareFault) → Some x ≡ slice_get xs k → first_some f (take k xs) ≡ None → IsTold mounts (f x) why → IsTold mounts (first_some f xs) why
+pub told-first : {A : Type 0} (mounts : List Mount) (f : A → Option Early) (xs : List A) (k : ℕ) (x : A)
+    (why : PrepareFault) → Some x ≡ slice_get xs k → first_some f (take k xs) ≡ None → IsTold mounts (f x) why
+    → IsTold mounts (first_some f xs) why
 told-first mounts f xs k x why there none told other =
     let one = told other in
     record { early = one.early; first = first_some-found f xs k x one.early there none one.first; is = one.is }
 
-pub told-same : (mounts : List Mount) (one other : Option Early) (why : PrepareFault) → one ≡ other → IsTold mounts one why → IsTold mounts other why
+pub told-same : (mounts : List Mount) (one other : Option Early) (why : PrepareFault) → one ≡ other
+    → IsTold mounts one why → IsTold mounts other why
 told-same mounts one other why same told = subst (λ (o : Option Early). IsTold mounts o why) same told
 
-pub tells-behind : (mounts : List Mount) (one other : Option Early) (why : PrepareFault) → one ≡ None → Tells mounts other why → Tells mounts (option_or one other) why
-tells-behind mounts one other why none told = record { early = told.early; first = ap (λ o. option_or o other) none ∙ told.first; is = told.is }
+pub tells-behind : (mounts : List Mount) (one other : Option Early) (why : PrepareFault) → one ≡ None
+    → Tells mounts other why → Tells mounts (option_or one other) why
+tells-behind mounts one other why none told =
+    record { early = told.early; first = ap (λ o. option_or o other) none ∙ told.first; is = told.is }
 
-pub no-long : (o : Option (Name × ℕ)) → option_map {U = Early} (λ (long : Name × ℕ). ValueTooLong long.0 long.1) o ≡ None → o ≡ None
+pub no-long : (o : Option (Name × ℕ))
+    → option_map {U = Early} (λ (long : Name × ℕ). ValueTooLong long.0 long.1) o ≡ None → o ≡ None
 no-long None e = refl
 no-long (Some long) e = absurd cc
 
@@ -67,25 +75,36 @@ no-long (Some long) e = absurd cc
 
 module _ (mounts : List Mount) where
   -- sound and short contents that aren't too heavy can be written
-  is-light : (file : FileToWrite) (mount : Mount) → slice_get mounts file.mount ≡ Some mount → heavy_at mounts file ≡ None → weight file.contents ≤ heaviest_map
-  is-light file mount there none = ltb-false heaviest_map (weight file.contents) (by (nat_lt heaviest_map (weight file.contents)) (sym (ap (option_and_then (λ (k : Mount). heavy_contents file.mount file.contents)) there) ∙ none))
+  is-light : (file : FileToWrite) (mount : Mount) → slice_get mounts file.mount ≡ Some mount
+      → heavy_at mounts file ≡ None → weight file.contents ≤ heaviest_map
+  is-light file mount there none =
+      ltb-false heaviest_map (weight file.contents) (by (nat_lt heaviest_map (weight file.contents)) (sym (ap (option_and_then (λ (k : Mount). heavy_contents file.mount file.contents)) there) ∙ none))
     where
       by : (b : _) → cond b (Some (TooHeavy file.mount (saturated (weight file.contents)))) None ≡ None → b ≡ false
       by true h = absurd cc
       by false h = refl
 
-  writable-where : (file : FileToWrite) → IsSoundFile mounts file → AreShort file.contents → ((mount : Mount) → slice_get mounts file.mount ≡ Some mount → weight file.contents ≤ heaviest_map) → IsWritable mounts file
-  writable-where file sound short light = λ mount there. (limited-from mount.at file.contents (sound mount there) short (light mount there), λ name entry found. (sound mount there name entry found).whole_is_name)
+  writable-where : (file : FileToWrite) → IsSoundFile mounts file → AreShort file.contents
+      → ((mount : Mount) → slice_get mounts file.mount ≡ Some mount → weight file.contents ≤ heaviest_map)
+      → IsWritable mounts file
+  writable-where file sound short light =
+      λ mount there. (limited-from mount.at file.contents (sound mount there) short (light mount there), λ name entry found. (sound mount there name entry found).whole_is_name)
 
-  pub writable-light : (file : FileToWrite) → IsSoundFile mounts file → AreShort file.contents → heavy_at mounts file ≡ None → IsWritable mounts file
-  writable-light file sound short light = writable-where file sound short (λ mount there. is-light file mount there light)
+  pub writable-light : (file : FileToWrite) → IsSoundFile mounts file → AreShort file.contents
+      → heavy_at mounts file ≡ None → IsWritable mounts file
+  writable-light file sound short light =
+      writable-where file sound short (λ mount there. is-light file mount there light)
 
-  pub writable-weighed : (file : FileToWrite) (w : ℕ) → IsSoundFile mounts file → AreShort file.contents → w ≡ saturated (weight file.contents) → w ≤ heaviest_map → IsWritable mounts file
+  pub writable-weighed : (file : FileToWrite) (w : ℕ) → IsSoundFile mounts file → AreShort file.contents
+      → w ≡ saturated (weight file.contents) → w ≤ heaviest_map → IsWritable mounts file
   writable-weighed file w sound short is le = writable-where file sound short (λ mount there. omega (arith, is, le))
 
-  pub writable : (files : List FileToWrite) → AllByRecursion (IsSoundFile mounts) files → AllByRecursion (λ (file : FileToWrite). AreShort file.contents) files → first_some (heavy_at mounts) files ≡ None → AllByRecursion (IsWritable mounts) files
+  pub writable : (files : List FileToWrite) → AllByRecursion (IsSoundFile mounts) files
+      → AllByRecursion (λ (file : FileToWrite). AreShort file.contents) files
+      → first_some (heavy_at mounts) files ≡ None → AllByRecursion (IsWritable mounts) files
   writable [] sound short light = tt
-  writable (file ∷ files) sound short light = (writable-light file sound.0 short.0 (none_before _ _ light), writable files sound.1 short.1 (none_behind _ _ light))
+  writable (file ∷ files) sound short light =
+      (writable-light file sound.0 short.0 (none_before _ _ light), writable files sound.1 short.1 (none_behind _ _ light))
 
 -- ---- what files are to hold is short, where what is wanted and what they keep for others is
 
@@ -93,17 +112,24 @@ shadow-short : (state : FileState) → HasShortTexts state → AreShort (shadow_
 shadow-short (Good visible shadow) short = short.1
 shadow-short (Bad cause) short = each-none _
 
-contents-short : (files : List MountedFile) (m : ℕ) (keys : KeyMap) → HaveShortTexts files → AreShort keys → AreShort (contents_of files (m, keys))
+contents-short : (files : List MountedFile) (m : ℕ) (keys : KeyMap) → HaveShortTexts files → AreShort keys
+    → AreShort (contents_of files (m, keys))
 contents-short [] m keys all short = each-none _
-contents-short (file ∷ files) zero keys all short = short-relative file.mount.at (with_all keys (shadow_of file.state)) (short-with_all keys (shadow_of file.state) short (shadow-short file.state all.0))
+contents-short (file ∷ files) zero keys all short =
+    short-relative file.mount.at (with_all keys (shadow_of file.state)) (short-with_all keys (shadow_of file.state) short (shadow-short file.state all.0))
 contents-short (file ∷ files) (suc m) keys all short = contents-short files m keys all.1 short
 
-pub files-short : (files : List MountedFile) (parts : List (ℕ × KeyMap)) → HaveShortTexts files → AllByRecursion (λ (part : ℕ × KeyMap). AreShort part.1) parts → AllByRecursion (λ (file : FileToWrite). AreShort file.contents) (over (file_of files) parts)
+pub files-short : (files : List MountedFile) (parts : List (ℕ × KeyMap)) → HaveShortTexts files
+    → AllByRecursion (λ (part : ℕ × KeyMap). AreShort part.1) parts
+    → AllByRecursion (λ (file : FileToWrite). AreShort file.contents) (over (file_of files) parts)
 files-short files [] all short = tt
-files-short files (part ∷ parts) all short = (contents-short files part.0 part.1 all short.0, files-short files parts all short.1)
+files-short files (part ∷ parts) all short =
+    (contents-short files part.0 part.1 all short.0, files-short files parts all short.1)
 
 -- one more file
-pub files-more : (files : List MountedFile) (parts : List Part) (k : ℕ) (part : Part) → Some part ≡ slice_get parts k → over (file_of files) (numbered (take (k + 1) parts)) ≡ over (file_of files) (numbered (take k parts)) ++ file_of files (part.mount, part.keys) ∷ []
+pub files-more : (files : List MountedFile) (parts : List Part) (k : ℕ) (part : Part) → Some part ≡ slice_get parts k
+    → over (file_of files) (numbered (take (k + 1) parts))
+    ≡ over (file_of files) (numbered (take k parts)) ++ file_of files (part.mount, part.keys) ∷ []
 files-more files parts k part there =
     ap (over (file_of files)) (ap numbered (take-next parts k part there) ∙ map-append (λ (p : Part). (p.mount, p.keys)) (take k parts) (part ∷ []))
     ∙ map-append (file_of files) (numbered (take k parts)) ((part.mount, part.keys) ∷ [])
@@ -137,7 +163,8 @@ module _ (formats : Formats) (files : List MountedFile) (procs : ℕ → KeyMap)
         ∙ ap₂ (λ (ms : List ℕ) (ks : KeyMap). option_or (long_told table ms ks) (first_some (too_heavy store wanted) set.touched)) asked.involved asked.keys_are
         ∙ ap (option_or (long_told table mounts keys)) (sym (ap (first_some (heavy_at table)) all-made ∙ heavy-all formats files procs set.keys set.touched))
 
-    pub refused-heavy : (why : PrepareFault) → long_told table mounts keys ≡ None → Tells table (first_some (heavy_at table) all) why → IsRefusedSet formats store set why
+    pub refused-heavy : (why : PrepareFault) → long_told table mounts keys ≡ None
+        → Tells table (first_some (heavy_at table) all) why → IsRefusedSet formats store set why
     refused-heavy why no_long told =
         let first = tells-behind table _ _ why no_long told in
         record {
@@ -148,15 +175,19 @@ module _ (formats : Formats) (files : List MountedFile) (procs : ℕ → KeyMap)
 
     module _ (no_long : long_told table mounts keys ≡ None) (no_heavy : first_some (heavy_at table) all ≡ None) where
       from-formats : (answer : Option Early) → FromFormats formats store set answer → IsEarly formats store set answer
-      from-formats answer from = subst (λ (o : Option Early). Follows o answer (FromFormats formats store set answer)) (sym (before-is ∙ ap₂ option_or no_long no_heavy)) from
+      from-formats answer from =
+          subst (λ (o : Option Early). Follows o answer (FromFormats formats store set answer)) (sym (before-is ∙ ap₂ option_or no_long no_heavy)) from
 
-      behind-is : behind_formats formats store set ≡ option_or (first_some (long_at table) (over (written_of formats table) all)) (first_some (table_at table) parts)
+      behind-is : behind_formats formats store set
+          ≡ option_or (first_some (long_at table) (over (written_of formats table) all)) (first_some (table_at table) parts)
       behind-is = sym (ap₂ option_or
           (ap (λ (fs : List FileToWrite). first_some (long_at table) (over (written_of formats table) fs)) all-made ∙ long-all formats files procs set.keys set.touched)
           (ap (first_some (table_at table)) asked.parts_are ∙ table-all formats files procs set.keys set.touched))
 
-      all-storable : AllByRecursion (IsStorableFile formats table) all → AllByRecursion (IsStorableAt formats store wanted) set.touched
-      all-storable storable = storable-all formats files procs set.keys set.touched (subst (λ (fs : List FileToWrite). AllByRecursion (IsStorableFile formats table) fs) all-made storable)
+      all-storable : AllByRecursion (IsStorableFile formats table) all
+          → AllByRecursion (IsStorableAt formats store wanted) set.touched
+      all-storable storable =
+          storable-all formats files procs set.keys set.touched (subst (λ (fs : List FileToWrite). AllByRecursion (IsStorableFile formats table) fs) all-made storable)
 
       pub passes : (texts : List FileText) → AreWritten formats table all parts texts → HasTexts formats store set texts
       passes texts well = record {
@@ -164,7 +195,8 @@ module _ (formats : Formats) (files : List MountedFile) (procs : ℕ → KeyMap)
         are = well.are ∙ ap (λ (fs : List FileToWrite). over as_file (by_name table (over (written_of formats table) fs))) all-made ∙ ap (over as_file) (texts-all formats files procs set.keys set.touched);
       }
 
-      pub refused-behind : (why : PrepareFault) → AreUnwritten formats table all parts why → IsRefusedSet formats store set why
+      pub refused-behind : (why : PrepareFault) → AreUnwritten formats table all parts why
+          → IsRefusedSet formats store set why
       refused-behind why (inr late) = record {
         early = late.1.early;
         refused = from-formats (Some late.1.early) (inr (all-storable late.0, sym (behind-is ∙ late.1.first)));

@@ -37,19 +37,23 @@ touched-none (m ∷ touched) aside lt = refl
 
 -- the last test, by its outcome
 abbrev at_last : Bool → Bool → ℕ → code.Commit → ℕ → Option (List FileText) → Late
-at_last full risen h commit aside renewed = late_of risen (cond full (verdict.HistoryFull (saturated h)) (verdict.Commits commit aside renewed))
+at_last full risen h commit aside renewed =
+    late_of risen (cond full (verdict.HistoryFull (saturated h)) (verdict.Commits commit aside renewed))
 
-full-step : (risen : Bool) (h full : ℕ) → full ≡ h → (commit : code.Commit) (made : Commit) → log.commit_of commit ≡ made → (aside : ℕ) (renewed : Option (List FileText))
+full-step : (risen : Bool) (h full : ℕ) → full ≡ h → (commit : code.Commit) (made : Commit)
+    → log.commit_of commit ≡ made → (aside : ℕ) (renewed : Option (List FileText))
     → Follows (if_full full) (Some (late_of risen (unless_full h commit aside renewed))) (late_of risen (unless_full h commit aside renewed) ≡ Commits made aside)
 full-step risen h full e commit made same aside renewed =
     subst (λ n. Follows (if_full n) (Some (late_of risen (unless_full h commit aside renewed))) (late_of risen (unless_full h commit aside renewed) ≡ Commits made aside)) (sym e) (at (nat_lt heaviest_history h))
   where
-    at : (b : Bool) → Follows (cond b (Some (HistoryFull (saturated h))) None) (Some (at_last b risen h commit aside renewed)) (at_last b risen h commit aside renewed ≡ Commits made aside)
+    at : (b : Bool)
+        → Follows (cond b (Some (HistoryFull (saturated h))) None) (Some (at_last b risen h commit aside renewed)) (at_last b risen h commit aside renewed ≡ Commits made aside)
     at true = refl
     at false = ap (λ c. Commits c aside) same
 
 -- a set that a commit blocks is told so
-pub late-blocked : (formats : Formats) (store : Store) (history : List Commit) (keys : KeyMap) (set : Prepared) (m by : ℕ) → 0 < length set.touched → conflict store history set ≡ Some (Conflict m by)
+pub late-blocked : (formats : Formats) (store : Store) (history : List Commit) (keys : KeyMap) (set : Prepared)
+    (m by : ℕ) → 0 < length set.touched → conflict store history set ≡ Some (Conflict m by)
     → IsLate formats store history keys set (Conflict m by)
 late-blocked formats store history keys set m by some blocked =
     behind (if_untouched set.touched set.aside) (Some (Conflict m by)) _ (touched-none set.touched set.aside some) (told (conflict store history set) (Conflict m by) _ blocked)
@@ -60,27 +64,37 @@ module _ (formats : Formats) (store : Store) (history : List Commit) (keys : Key
 
   -- what is told of a commit behind the last tests
   abbrev ToCommit : Late → Type 0
-  ToCommit answer = Follows (if_heavy (weight (after keys set.changes))) (Some answer) (Follows (if_full (history_weight (history ++ commit_of set ∷ []))) (Some answer) (answer ≡ Commits (commit_of set) set.aside))
+  ToCommit answer =
+      Follows (if_heavy (weight (after keys set.changes))) (Some answer) (Follows (if_full (history_weight (history ++ commit_of set ∷ []))) (Some answer) (answer ≡ Commits (commit_of set) set.aside))
 
   -- of a set that nothing blocks the files are measured
-  late-unblocked : (answer : Late) → Follows (too_large formats store keys set) (Some answer) (Checks points keys set answer (ToCommit answer)) → IsLate formats store history keys set answer
+  late-unblocked : (answer : Late)
+      → Follows (too_large formats store keys set) (Some answer) (Checks points keys set answer (ToCommit answer))
+      → IsLate formats store history keys set answer
   late-unblocked answer follows =
       behind (if_untouched set.touched set.aside) (Some answer) _ (touched-none set.touched set.aside some)
       (behind (conflict store history set) (Some answer) _ free follows)
 
   module _ (later : KeyMap) (later_is : later ≡ after keys set.changes) where
-    measured : (o : Option Late) → first_some (too_large_at formats store later) set.touched ≡ o → too_large formats store keys set ≡ o
+    measured : (o : Option Late) → first_some (too_large_at formats store later) set.touched ≡ o
+        → too_large formats store keys set ≡ o
     measured o is = ap (λ k. first_some (too_large_at formats store k) set.touched) (sym later_is) ∙ is
 
-    pub late-large : (m bytes : ℕ) → first_some (too_large_at formats store later) set.touched ≡ Some (TooLarge m bytes) → IsLate formats store history keys set (TooLarge m bytes)
-    late-large m bytes large = late-unblocked (TooLarge m bytes) (told (too_large formats store keys set) (TooLarge m bytes) _ (measured (Some (TooLarge m bytes)) large))
+    pub late-large : (m bytes : ℕ) → first_some (too_large_at formats store later) set.touched ≡ Some (TooLarge m bytes)
+        → IsLate formats store history keys set (TooLarge m bytes)
+    late-large m bytes large =
+        late-unblocked (TooLarge m bytes) (told (too_large formats store keys set) (TooLarge m bytes) _ (measured (Some (TooLarge m bytes)) large))
 
     module _ (small : first_some (too_large_at formats store later) set.touched ≡ None) where
       -- where none of them is too large, it is judged by the rules
-      late-small : (answer : Late) → Checks points keys set answer (ToCommit answer) → IsLate formats store history keys set answer
-      late-small answer checks = late-unblocked answer (behind (too_large formats store keys set) (Some answer) _ (measured None small) checks)
+      late-small : (answer : Late) → Checks points keys set answer (ToCommit answer)
+          → IsLate formats store history keys set answer
+      late-small answer checks =
+          late-unblocked answer (behind (too_large formats store keys set) (Some answer) _ (measured None small) checks)
 
-      pub late-invalid : (before now : ℕ) (violation : Violation) → IsFirstViolation (HasRisen before now) (is_owned points set.touched) later (Some violation) → IsLate formats store history keys set (Invalid violation (has_risen before now))
+      pub late-invalid : (before now : ℕ) (violation : Violation)
+          → IsFirstViolation (HasRisen before now) (is_owned points set.touched) later (Some violation)
+          → IsLate formats store history keys set (Invalid violation (has_risen before now))
       late-invalid before now violation first = late-small (Invalid violation (has_risen before now)) (inl (record {
         violation = violation;
         risen = has_risen before now;
@@ -90,9 +104,11 @@ module _ (formats : Formats) (store : Store) (history : List Commit) (keys : Key
 
       module _ (before now : ℕ) (none : IsFirstViolation (HasRisen before now) (is_owned points set.touched) later None) where
         kept : KeepRules points set.touched (after keys set.changes)
-        kept = subst (KeepRules points set.touched) later_is (AreOfKeys-none (HasRisen before now) ⊥ (checked_keys (is_owned points set.touched) later) none)
+        kept =
+            subst (KeepRules points set.touched) later_is (AreOfKeys-none (HasRisen before now) ⊥ (checked_keys (is_owned points set.touched) later) none)
 
-        pub late-heavy : (w : ℕ) → w ≡ saturated (weight later) → heaviest_map < w → IsLate formats store history keys set (DatabaseFull w)
+        pub late-heavy : (w : ℕ) → w ≡ saturated (weight later) → heaviest_map < w
+            → IsLate formats store history keys set (DatabaseFull w)
         late-heavy w is lt =
             let n : ℕ = weight (after keys set.changes) in
             let same : w ≡ saturated n = is ∙ ap (λ k. saturated (weight k)) later_is in
@@ -100,7 +116,8 @@ module _ (formats : Formats) (store : Store) (history : List Commit) (keys : Key
             late-small (DatabaseFull w)
             (inr (kept, told (if_heavy n) (DatabaseFull w) _ (cond-true (nat_lt heaviest_map n) (Some (DatabaseFull (saturated n))) None (lt-ltb heaviest_map n heavy) ∙ ap (λ k. Some (DatabaseFull k)) (sym same))))
 
-        pub late-light : (w : ℕ) → w ≡ saturated (weight later) → w ≤ heaviest_map → (commit : code.Commit) → log.commit_of commit ≡ commit_of set → (risen : Bool) (renewed : Option (List FileText))
+        pub late-light : (w : ℕ) → w ≡ saturated (weight later) → w ≤ heaviest_map → (commit : code.Commit)
+            → log.commit_of commit ≡ commit_of set → (risen : Bool) (renewed : Option (List FileText))
             → IsLate formats store history keys set (late_of risen (unless_full (history_weight (history ++ log.commit_of commit ∷ [])) commit set.aside renewed))
         late-light w is le commit same risen renewed =
             let n : ℕ = weight (after keys set.changes) in

@@ -38,22 +38,30 @@ module _ (formats : Formats) (files : List MountedFile) (procs : ℕ → KeyMap)
   abbrev pair : ℕ → ℕ × KeyMap
   pair m = (m, wants (points_of (store_of files procs)) keys m)
 
-  pub contents-is : (m : ℕ) (mount : Mount) (held : KeyMap) → slice_get table m ≡ Some mount → contents_of files (m, held) ≡ contents store m mount held
-  contents-is m mount held there = by (slice_get files m) (sym (slice_get-map (λ (file : MountedFile). file.mount) files m) ∙ there)
+  pub contents-is : (m : ℕ) (mount : Mount) (held : KeyMap) → slice_get table m ≡ Some mount
+      → contents_of files (m, held) ≡ contents store m mount held
+  contents-is m mount held there =
+      by (slice_get files m) (sym (slice_get-map (λ (file : MountedFile). file.mount) files m) ∙ there)
     where
       by : (o : Option MountedFile) → option_map (λ (file : MountedFile). file.mount) o ≡ Some mount
-          → option_map_or (λ (file : MountedFile). relative file.mount.at (with_all held (shadow_of file.state))) o no_keys ≡ relative mount.at (with_all held (option_map_or (λ (file : MountedFile). shadow_of file.state) o no_keys))
+          → option_map_or (λ (file : MountedFile). relative file.mount.at (with_all held (shadow_of file.state))) o no_keys
+          ≡ relative mount.at (with_all held (option_map_or (λ (file : MountedFile). shadow_of file.state) o no_keys))
       by None e = absurd cc
-      by (Some file) e = ap (λ (k : Mount). relative k.at (with_all held (shadow_of file.state))) (some_is file.mount mount e)
+      by (Some file) e =
+          ap (λ (k : Mount). relative k.at (with_all held (shadow_of file.state))) (some_is file.mount mount e)
 
-  at-alike : {A : Type 0} (f g : Mount → Option A) (m : ℕ) → ((mount : Mount) → slice_get table m ≡ Some mount → f mount ≡ g mount) → option_and_then f (slice_get table m) ≡ option_and_then g (slice_get table m)
+  at-alike : {A : Type 0} (f g : Mount → Option A) (m : ℕ)
+      → ((mount : Mount) → slice_get table m ≡ Some mount → f mount ≡ g mount)
+      → option_and_then f (slice_get table m) ≡ option_and_then g (slice_get table m)
   at-alike {A = A} f g m same = by (slice_get table m) refl
     where
       by : (o : Option Mount) → slice_get table m ≡ o → option_and_then f o ≡ option_and_then g o
       by None is = refl
       by (Some mount) is = same mount is
 
-  text-is : (m : ℕ) (mount : Mount) → slice_get table m ≡ Some mount → (written_of formats table (file_of files (pair m))).bytes ≡ formats.text mount.kind (contents store m mount (wanted m))
+  text-is : (m : ℕ) (mount : Mount) → slice_get table m ≡ Some mount
+      → (written_of formats table (file_of files (pair m))).bytes
+      ≡ formats.text mount.kind (contents store m mount (wanted m))
   text-is m mount there =
       ap (λ (o : Option Mount). option_map_or (λ (k : Mount). formats.text k.kind (contents_of files (pair m))) o []) there
       ∙ ap (formats.text mount.kind) (contents-is m mount (wanted m) there)
@@ -61,11 +69,13 @@ module _ (formats : Formats) (files : List MountedFile) (procs : ℕ → KeyMap)
   pub heavy-is : (m : ℕ) → heavy_at table (file_of files (pair m)) ≡ too_heavy store wanted m
   heavy-is m = at-alike _ _ m (λ mount there. ap (heavy_contents m) (contents-is m mount (wanted m) there))
 
-  long-is : (m : ℕ) → long_at table (written_of formats table (file_of files (pair m))) ≡ too_long formats store wanted m
+  long-is : (m : ℕ)
+      → long_at table (written_of formats table (file_of files (pair m))) ≡ too_long formats store wanted m
   long-is m = at-alike _ _ m (λ mount there. ap (long_text m) (text-is m mount there))
 
   large-is : (m : ℕ) → large_at formats table (file_of files (pair m)) ≡ too_large_at formats store keys m
-  large-is m = at-alike _ _ m (λ mount there. ap (λ (held : KeyMap). cond mount.by_key (option_map (TooLarge m) (oversize formats mount held)) None) (contents-is m mount (wanted m) there))
+  large-is m =
+      at-alike _ _ m (λ mount there. ap (λ (held : KeyMap). cond mount.by_key (option_map (TooLarge m) (oversize formats mount held)) None) (contents-is m mount (wanted m) there))
 
   abbrev made : List ℕ → List FileToWrite
   made ms = over (file_of files) (over pair ms)
@@ -74,11 +84,14 @@ module _ (formats : Formats) (files : List MountedFile) (procs : ℕ → KeyMap)
   heavy-all [] = refl
   heavy-all (m ∷ ms) = ap₂ option_or (heavy-is m) (heavy-all ms)
 
-  pub long-all : (ms : List ℕ) → first_some (long_at table) (over (written_of formats table) (made ms)) ≡ first_some (too_long formats store wanted) ms
+  pub long-all : (ms : List ℕ)
+      → first_some (long_at table) (over (written_of formats table) (made ms))
+      ≡ first_some (too_long formats store wanted) ms
   long-all [] = refl
   long-all (m ∷ ms) = ap₂ option_or (long-is m) (long-all ms)
 
-  pub large-all : (ms : List ℕ) → first_some (large_at formats table) (made ms) ≡ first_some (too_large_at formats store keys) ms
+  pub large-all : (ms : List ℕ)
+      → first_some (large_at formats table) (made ms) ≡ first_some (too_large_at formats store keys) ms
   large-all [] = refl
   large-all (m ∷ ms) = ap₂ option_or (large-is m) (large-all ms)
 
@@ -86,12 +99,16 @@ module _ (formats : Formats) (files : List MountedFile) (procs : ℕ → KeyMap)
   table-all [] = refl
   table-all (m ∷ ms) = ap (option_or (bad_table store wanted m)) (table-all ms)
 
-  pub storable-all : (ms : List ℕ) → AllByRecursion (IsStorableFile formats table) (made ms) → AllByRecursion (IsStorableAt formats store wanted) ms
+  pub storable-all : (ms : List ℕ) → AllByRecursion (IsStorableFile formats table) (made ms)
+      → AllByRecursion (IsStorableAt formats store wanted) ms
   storable-all [] all = tt
-  storable-all (m ∷ ms) all = (λ mount there. subst (formats.IsStorable mount.kind) (contents-is m mount (wanted m) there) (all.0 mount there), storable-all ms all.1)
+  storable-all (m ∷ ms) all =
+      (λ mount there. subst (formats.IsStorable mount.kind) (contents-is m mount (wanted m) there) (all.0 mount there), storable-all ms all.1)
 
   -- the files of some mounts can be made anew, where the mounts' can
-  pub renewable : (ms : List ℕ) → MayRenew formats store keys ms → AllByRecursion (IsSoundFile table) (made ms) → AllByRecursion (λ (file : FileToWrite). AreShort file.contents) (made ms) → AllByRecursion (IsRenewable formats table) (made ms)
+  pub renewable : (ms : List ℕ) → MayRenew formats store keys ms → AllByRecursion (IsSoundFile table) (made ms)
+      → AllByRecursion (λ (file : FileToWrite). AreShort file.contents) (made ms)
+      → AllByRecursion (IsRenewable formats table) (made ms)
   renewable [] may sound short = tt
   renewable (m ∷ ms) may sound short = (
     record {
@@ -103,11 +120,13 @@ module _ (formats : Formats) (files : List MountedFile) (procs : ℕ → KeyMap)
     renewable ms (record { storable = may.storable.1; short = may.short; light = may.light.1 }) sound.1 short.1,
   )
 
-  pub texts-all : (ms : List ℕ) → by_name table (over (written_of formats table) (made ms)) ≡ map.entries (texts_at formats store keys ms)
+  pub texts-all : (ms : List ℕ)
+      → by_name table (over (written_of formats table) (made ms)) ≡ map.entries (texts_at formats store keys ms)
   texts-all [] = sym (entries-empty text_cmp (List ℕ))
   texts-all (m ∷ ms) = by (slice_get table m) refl (texts-all ms)
     where
-      by : (o : Option Mount) → slice_get table m ≡ o → by_name table (over (written_of formats table) (made ms)) ≡ map.entries (texts_at formats store keys ms)
+      by : (o : Option Mount) → slice_get table m ≡ o
+          → by_name table (over (written_of formats table) (made ms)) ≡ map.entries (texts_at formats store keys ms)
           → option_map_or (λ (mount : Mount). put text_cmp mount.file (written_of formats table (file_of files (pair m))).bytes (by_name table (over (written_of formats table) (made ms)))) o (by_name table (over (written_of formats table) (made ms)))
           ≡ map.entries (with_text formats store keys m o (texts_at formats store keys ms))
       by None is rest = rest
@@ -124,10 +143,19 @@ module _ (formats : Formats) (files : List MountedFile) (procs : ℕ → KeyMap)
     pub is : file_of files (pair mount) ≡ file
     pub before_is : made front ≡ before
 
-  pub cut : (ms : List ℕ) (before : List FileToWrite) (file : FileToWrite) (behind : List FileToWrite) → made ms ≡ before ++ file ∷ behind → Cut ms before file
+  pub cut : (ms : List ℕ) (before : List FileToWrite) (file : FileToWrite) (behind : List FileToWrite)
+      → made ms ≡ before ++ file ∷ behind → Cut ms before file
   cut [] [] file behind e = absurd cc
   cut [] (b ∷ before) file behind e = absurd cc
-  cut (m ∷ ms) [] file behind e = record { front = []; mount = m; rest = ms; stand = refl; is = head_is _ _ _ _ e; before_is = refl }
+  cut (m ∷ ms) [] file behind e =
+      record { front = []; mount = m; rest = ms; stand = refl; is = head_is _ _ _ _ e; before_is = refl }
   cut (m ∷ ms) (b ∷ before) file behind e =
       let r = cut ms before file behind (tail_is _ _ _ _ e) in
-      record { front = m ∷ r.front; mount = r.mount; rest = r.rest; stand = ap (λ l. m ∷ l) r.stand; is = r.is; before_is = ap₂ (λ y ys. y ∷ ys) (head_is _ _ _ _ e) r.before_is }
+      record {
+        front = m ∷ r.front;
+        mount = r.mount;
+        rest = r.rest;
+        stand = ap (λ l. m ∷ l) r.stand;
+        is = r.is;
+        before_is = ap₂ (λ y ys. y ∷ ys) (head_is _ _ _ _ e) r.before_is;
+      }

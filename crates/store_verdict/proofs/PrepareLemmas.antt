@@ -39,7 +39,8 @@ module _ (formats : Formats) (store : Store) (handle : ℕ) (rec : Record) (pare
       parts_are = is_wanted.parts ∙ ap (over {B = ℕ × KeyMap} (λ m. (m, wants (points_of store) keys m))) (sym (touched-only (points_of store) rec parent keys));
     }
 
-    pub made-from : (texts : List FileText) → (IsAsked store mounts keys (numbered wanted.parts) the_set → HasTexts formats store the_set texts)
+    pub made-from : (texts : List FileText)
+        → (IsAsked store mounts keys (numbered wanted.parts) the_set → HasTexts formats store the_set texts)
         → IsMade formats store handle rec parent keys (record { handle = handle; committed = rec.committed; seen = seen; keys = keys; touched = wanted.touched; wanted = wanted.parts; changes = wanted.changes; aside = wanted.aside; texts = texts })
     made-from texts told =
         let has = told asked in
@@ -53,10 +54,13 @@ module _ (formats : Formats) (store : Store) (handle : ℕ) (rec : Record) (pare
           texts = λ own. has.are ∙ ap (λ (ts : List ℕ). as_entry (texts_at formats store keys ts)) (touched-only (points_of store) rec parent keys ∙ sym is_wanted.touched);
         }
 
-    pub refused-from : (why : PrepareFault) → (IsAsked store mounts keys (numbered wanted.parts) the_set → IsRefusedSet formats store the_set why) → IsRefused formats store handle rec parent keys why
+    pub refused-from : (why : PrepareFault)
+        → (IsAsked store mounts keys (numbered wanted.parts) the_set → IsRefusedSet formats store the_set why)
+        → IsRefused formats store handle rec parent keys why
     refused-from why told = told asked
 
-  pub unfetched-from : (m : ℕ) (why : PrepareFault) → unseen rec mounts ≡ Some (NotFetched m) → fault_of store.mounts (NotFetched m) ≡ Some why → IsRefused formats store handle rec parent keys why
+  pub unfetched-from : (m : ℕ) (why : PrepareFault) → unseen rec mounts ≡ Some (NotFetched m)
+      → fault_of store.mounts (NotFetched m) ≡ Some why → IsRefused formats store handle rec parent keys why
   unfetched-from m why none told = record {
     early = NotFetched m;
     refused = unseen-early formats store the_set (NotFetched m) (not_fetched-is (points_of store) rec parent keys handle ∙ ap (unseen rec) (sym involved) ∙ none);

@@ -31,14 +31,18 @@ module _ (formats : Formats) (store : Store) (keys : KeyMap) where
   small-at : (m : ℕ) → counts_keys store m ≡ false → too_large_at formats store keys m ≡ None
   small-at m by_backend = by (slice_get store.mounts m) by_backend
     where
-      by : (o : Option Mount) → option_map_or (λ (mount : Mount). mount.by_key) o false ≡ false → option_and_then (too_large_file formats store keys m) o ≡ None
+      by : (o : Option Mount) → option_map_or (λ (mount : Mount). mount.by_key) o false ≡ false
+          → option_and_then (too_large_file formats store keys m) o ≡ None
       by None e = refl
-      by (Some mount) e = ap (λ b. cond b (option_map (TooLarge m) (oversize formats mount (contents store m mount (wants (points_of store) keys m)))) None) e
+      by (Some mount) e =
+          ap (λ b. cond b (option_map (TooLarge m) (oversize formats mount (contents store m mount (wants (points_of store) keys m)))) None) e
 
   -- of mounts by their backends none is too large
-  pub small-all : (ms : List ℕ) → list_any (counts_keys store) ms ≡ false → first_some (too_large_at formats store keys) ms ≡ None
+  pub small-all : (ms : List ℕ) → list_any (counts_keys store) ms ≡ false
+      → first_some (too_large_at formats store keys) ms ≡ None
   small-all [] none = refl
-  small-all (m ∷ ms) none = let parts = or_parts (counts_keys store m) (list_any (counts_keys store) ms) none in ap₂ option_or (small-at m parts.0) (small-all ms parts.1)
+  small-all (m ∷ ms) none =
+      let parts = or_parts (counts_keys store m) (list_any (counts_keys store) ms) none in ap₂ option_or (small-at m parts.0) (small-all ms parts.1)
 
 -- ---- the files of the touched mounts
 
@@ -53,20 +57,25 @@ abbrev pub owned_files : List MountedFile → KeyMap → List ℕ → List FileT
 owned_files files keys touched = over (file_of files) (owned_parts files keys touched)
 
 -- the files that were made are these
-pub files-are : (files slice : List MountedFile) (keys : KeyMap) (touched : List ℕ) (told made : List FileToWrite) (given parts : List Part) (points : List Name)
-    → told ≡ made → made ≡ over (file_of slice) (numbered given) → slice ≡ files → given ≡ parts → numbered parts ≡ over {B = ℕ × KeyMap} (λ m. (m, wants points keys m)) touched → points ≡ points_at (mounts_in files)
+pub files-are : (files slice : List MountedFile) (keys : KeyMap) (touched : List ℕ) (told made : List FileToWrite)
+    (given parts : List Part) (points : List Name)
+    → told ≡ made → made ≡ over (file_of slice) (numbered given) → slice ≡ files → given ≡ parts
+    → numbered parts ≡ over {B = ℕ × KeyMap} (λ m. (m, wants points keys m)) touched
+    → points ≡ points_at (mounts_in files)
     → told ≡ owned_files files keys touched
 files-are files slice keys touched told made given parts points is of same are owned at =
     is ∙ of ∙ ap (λ (fs : List MountedFile). over (file_of fs) (numbered given)) same
     ∙ ap (over (file_of files)) (ap numbered are ∙ owned ∙ ap (λ (ps : List Name). over {B = ℕ × KeyMap} (λ m. (m, wants ps keys m)) touched) at)
 
-parts-short : (points : List Name) (keys : KeyMap) (ms : List ℕ) → AreShort keys → AllByRecursion (λ (part : ℕ × KeyMap). AreShort part.1) (over {B = ℕ × KeyMap} (λ m. (m, wants points keys m)) ms)
+parts-short : (points : List Name) (keys : KeyMap) (ms : List ℕ) → AreShort keys
+    → AllByRecursion (λ (part : ℕ × KeyMap). AreShort part.1) (over {B = ℕ × KeyMap} (λ m. (m, wants points keys m)) ms)
 parts-short points keys [] short = tt
 parts-short points keys (m ∷ ms) short = (short-kept keys (owns points m) short, parts-short points keys ms short)
 
 module _ (formats : Formats) (files : List MountedFile) (keys : KeyMap) (touched : List ℕ) where
   -- they can be made anew
-  pub can-renew : HaveShortTexts files → ((procs : ℕ → KeyMap) → MayRenew formats (store_of files procs) keys touched) → AllByRecursion (IsSoundFile (mounts_in files)) (owned_files files keys touched)
+  pub can-renew : HaveShortTexts files → ((procs : ℕ → KeyMap) → MayRenew formats (store_of files procs) keys touched)
+      → AllByRecursion (IsSoundFile (mounts_in files)) (owned_files files keys touched)
       → AllByRecursion (IsRenewable formats (mounts_in files)) (owned_files files keys touched)
   can-renew short may sound =
       renewable formats files (λ m. no_keys) keys touched (may (λ m. no_keys)) sound
@@ -74,10 +83,16 @@ module _ (formats : Formats) (files : List MountedFile) (keys : KeyMap) (touched
 
   module _ (procs : ℕ → KeyMap) where
     -- what is told of them is told of the mounts
-    pub large-is : (o : Option Late) → first_some (large_at formats (mounts_in files)) (owned_files files keys touched) ≡ o → first_some (too_large_at formats (store_of files procs) keys) touched ≡ o
+    pub large-is : (o : Option Late)
+        → first_some (large_at formats (mounts_in files)) (owned_files files keys touched) ≡ o
+        → first_some (too_large_at formats (store_of files procs) keys) touched ≡ o
     large-is o told = sym (large-all formats files procs keys touched) ∙ told
 
     -- and their texts are the mounts'
-    pub texts-are : (all : List WrittenFile) (texts : List FileText) → all ≡ over (written_of formats (mounts_in files)) (owned_files files keys touched) → texts ≡ over as_file (by_name (mounts_in files) all)
+    pub texts-are : (all : List WrittenFile) (texts : List FileText)
+        → all ≡ over (written_of formats (mounts_in files)) (owned_files files keys touched)
+        → texts ≡ over as_file (by_name (mounts_in files) all)
         → texts ≡ as_entry (texts_at formats (store_of files procs) keys touched)
-    texts-are all texts are is = is ∙ ap (λ ws. over as_file (by_name (mounts_in files) ws)) are ∙ ap (over as_file) (texts-all formats files procs keys touched)
+    texts-are all texts are is =
+        is ∙ ap (λ ws. over as_file (by_name (mounts_in files) ws)) are
+        ∙ ap (over as_file) (texts-all formats files procs keys touched)

@@ -29,18 +29,23 @@ first_is (y ∷ xs) x e = ap (λ z. z ∷ xs) (sym (same_Some x y e))
 -- ---- a walk
 
 -- a walk that passes its first key has what was behind it
-pub passes : {K : Type 0} (seen : K → Name × Entry) (at_hand next : Option K) (behind rest list : List (Name × Entry)) → to_come (option_map seen at_hand) behind ≡ list → is_some at_hand ≡ true → MatchOption next ((behind ≡ []) × (rest ≡ [])) (λ key. behind ≡ seen key ∷ rest) → to_come (option_map seen next) rest ≡ drop 1 list
+pub passes : {K : Type 0} (seen : K → Name × Entry) (at_hand next : Option K) (behind rest list : List (Name × Entry))
+    → to_come (option_map seen at_hand) behind ≡ list → is_some at_hand ≡ true
+    → MatchOption next ((behind ≡ []) × (rest ≡ [])) (λ key. behind ≡ seen key ∷ rest)
+    → to_come (option_map seen next) rest ≡ drop 1 list
 passes seen None next behind rest list view some steps = absurd cc
 passes seen (Some key) None behind rest list view some steps = sym (steps.0) ∙ ap (drop 1) view
 passes seen (Some key) (Some other) behind rest list view some steps = sym steps ∙ ap (drop 1) view
 
 -- one that has none stays
-pub stays : {K : Type 0} (seen : K → Name × Entry) (at_hand : Option K) (behind list : List (Name × Entry)) → to_come (option_map seen at_hand) behind ≡ list → is_some at_hand ≡ false → list ≡ drop 1 list
+pub stays : {K : Type 0} (seen : K → Name × Entry) (at_hand : Option K) (behind list : List (Name × Entry))
+    → to_come (option_map seen at_hand) behind ≡ list → is_some at_hand ≡ false → list ≡ drop 1 list
 stays seen None behind list view none = sym view ∙ ap (drop 1) view
 stays seen (Some key) behind list view none = absurd cc
 
 -- at first all keys are to come
-pub all_to_come : (before wanted : KeyMap) (q : Name) → change_between (map.entries before) (map.entries wanted) q ≡ change_at before wanted q
+pub all_to_come : (before wanted : KeyMap) (q : Name)
+    → change_between (map.entries before) (map.entries wanted) q ≡ change_at before wanted q
 all_to_come before wanted q = ap₂ change_of (sym (map.get-entries before q)) (sym (map.get-entries wanted q))
 
 -- ---- a sorted list behind its first key
@@ -49,8 +54,10 @@ module _ (es : List (Name × Entry)) (e : Name × Entry) (is : es ≡ e ∷ drop
   pub below_behind : T (below_all name_cmp e.0 (drop 1 es))
   below_behind = first _ _ (subst (λ l. T (is_sorted name_cmp l)) is sorted)
 
-pub below_both : (x : Name) (es : List (Name × Entry)) (e : Name × Entry) → es ≡ e ∷ drop 1 es → T (is_sorted name_cmp es) → name_cmp x e.0 ≡ Less → T (below_all name_cmp x es)
-below_both x es e is sorted lt = subst (λ l. T (below_all name_cmp x l)) (sym is) (both _ _ (is_less _ lt) (below_further name_cmp_total x e.0 (drop 1 es) lt (below_behind es e is sorted)))
+pub below_both : (x : Name) (es : List (Name × Entry)) (e : Name × Entry) → es ≡ e ∷ drop 1 es
+    → T (is_sorted name_cmp es) → name_cmp x e.0 ≡ Less → T (below_all name_cmp x es)
+below_both x es e is sorted lt =
+    subst (λ l. T (below_all name_cmp x l)) (sym is) (both _ _ (is_less _ lt) (below_further name_cmp_total x e.0 (drop 1 es) lt (below_behind es e is sorted)))
 
 pub below_none : (x : Name) (es : List (Name × Entry)) → es ≡ [] → T (below_all name_cmp x es)
 below_none x es is = subst (λ l. T (below_all name_cmp x l)) (sym is) tt
@@ -63,30 +70,46 @@ tied-same x y e = name_cmp-IsAntisymmetric x y e
 
 -- ---- what is found behind the first key
 
-passed : (q : Name) (e : Name × Entry) (es : List (Name × Entry)) → eq_by_cmp name_cmp q e.0 ≡ false → find name_cmp q (e ∷ es) ≡ find name_cmp q es
+passed : (q : Name) (e : Name × Entry) (es : List (Name × Entry)) → eq_by_cmp name_cmp q e.0 ≡ false
+    → find name_cmp q (e ∷ es) ≡ find name_cmp q es
 passed q e es other = ap (λ b. cond b (Some e.1) (find name_cmp q es)) other
 
-here : (q : Name) (e : Name × Entry) (es : List (Name × Entry)) → eq_by_cmp name_cmp q e.0 ≡ true → find name_cmp q (e ∷ es) ≡ Some e.1
+here : (q : Name) (e : Name × Entry) (es : List (Name × Entry)) → eq_by_cmp name_cmp q e.0 ≡ true
+    → find name_cmp q (e ∷ es) ≡ Some e.1
 here q e es tied = ap (λ b. cond b (Some e.1) (find name_cmp q es)) tied
 
-gone : (q name : Name) (es : List (Name × Entry)) → q ≡ name → T (below_all name_cmp name es) → find name_cmp q es ≡ None
+gone : (q name : Name) (es : List (Name × Entry)) → q ≡ name → T (below_all name_cmp name es)
+    → find name_cmp q es ≡ None
 gone q name es is below = find-below name_cmp q es (subst (λ n. T (below_all name_cmp n es)) (sym is) below)
 
 -- ---- one change more
 
 -- where a change is all that two lists have to add at its name, and nothing changes elsewhere
-added : (q name : Name) (changes : Changes) (change : Option Entry) (before after : Option (Option Entry)) → (eq_by_cmp name_cmp q name ≡ false → after ≡ before) → (eq_by_cmp name_cmp q name ≡ true → q ≡ name → (after ≡ None) × (before ≡ Some change)) → option_or after (map.get (map.insert changes name change) q) ≡ option_or before (map.get changes q)
-added q name changes change before after away there = ap (option_or after) (map.get-insert name_cmp_total changes name change q) ∙ by (tied_or_not {R = name_cmp} name_cmp-IsAntisymmetric q name)
+added : (q name : Name) (changes : Changes) (change : Option Entry) (before after : Option (Option Entry))
+    → (eq_by_cmp name_cmp q name ≡ false → after ≡ before)
+    → (eq_by_cmp name_cmp q name ≡ true → q ≡ name → (after ≡ None) × (before ≡ Some change))
+    → option_or after (map.get (map.insert changes name change) q) ≡ option_or before (map.get changes q)
+added q name changes change before after away there =
+    ap (option_or after) (map.get-insert name_cmp_total changes name change q)
+    ∙ by (tied_or_not {R = name_cmp} name_cmp-IsAntisymmetric q name)
   where
-    by : (eq_by_cmp name_cmp q name ≡ false) ⊎ ((eq_by_cmp name_cmp q name ≡ true) × (q ≡ name)) → option_or after (cond (eq_by_cmp name_cmp q name) (Some change) (map.get changes q)) ≡ option_or before (map.get changes q)
-    by (inl other) = ap (λ b. option_or after (cond b (Some change) (map.get changes q))) other ∙ ap (λ o. option_or o (map.get changes q)) (away other)
+    by : (eq_by_cmp name_cmp q name ≡ false) ⊎ ((eq_by_cmp name_cmp q name ≡ true) × (q ≡ name))
+        → option_or after (cond (eq_by_cmp name_cmp q name) (Some change) (map.get changes q))
+        ≡ option_or before (map.get changes q)
+    by (inl other) =
+        ap (λ b. option_or after (cond b (Some change) (map.get changes q))) other
+        ∙ ap (λ o. option_or o (map.get changes q)) (away other)
     by (inr same) =
         let at = there same.0 same.1 in
-        ap₂ (λ o b. option_or o (cond b (Some change) (map.get changes q))) at.0 same.0 ∙ sym (ap (λ o. option_or o (map.get changes q)) at.1)
+        ap₂ (λ o b. option_or o (cond b (Some change) (map.get changes q))) at.0 same.0
+        ∙ sym (ap (λ o. option_or o (map.get changes q)) at.1)
 
 module _ (changes next : Changes) (q : Name) where
   -- a name that is wanted no more
-  pub removal : (had rest wanted : List (Name × Entry)) (e : Name × Entry) → had ≡ e ∷ rest → T (below_all name_cmp e.0 rest) → T (below_all name_cmp e.0 wanted) → next ≡ map.insert changes e.0 None → option_or (change_between rest wanted q) (map.get next q) ≡ option_or (change_between had wanted q) (map.get changes q)
+  pub removal : (had rest wanted : List (Name × Entry)) (e : Name × Entry) → had ≡ e ∷ rest
+      → T (below_all name_cmp e.0 rest) → T (below_all name_cmp e.0 wanted) → next ≡ map.insert changes e.0 None
+      → option_or (change_between rest wanted q) (map.get next q)
+      ≡ option_or (change_between had wanted q) (map.get changes q)
   removal had rest wanted e is below beside made =
       ap (λ m. option_or (change_between rest wanted q) (map.get m q)) made
       ∙ added q e.0 changes None (change_between (e ∷ rest) wanted q) (change_between rest wanted q)
@@ -95,7 +118,10 @@ module _ (changes next : Changes) (q : Name) where
       ∙ ap (λ l. option_or (change_between l wanted q) (map.get changes q)) (sym is)
 
   -- a name that is new
-  pub entry : (had wanted rest : List (Name × Entry)) (e : Name × Entry) → wanted ≡ e ∷ rest → T (below_all name_cmp e.0 rest) → T (below_all name_cmp e.0 had) → next ≡ map.insert changes e.0 (Some e.1) → option_or (change_between had rest q) (map.get next q) ≡ option_or (change_between had wanted q) (map.get changes q)
+  pub entry : (had wanted rest : List (Name × Entry)) (e : Name × Entry) → wanted ≡ e ∷ rest
+      → T (below_all name_cmp e.0 rest) → T (below_all name_cmp e.0 had) → next ≡ map.insert changes e.0 (Some e.1)
+      → option_or (change_between had rest q) (map.get next q)
+      ≡ option_or (change_between had wanted q) (map.get changes q)
   entry had wanted rest e is below beside made =
       ap (λ m. option_or (change_between had rest q) (map.get m q)) made
       ∙ added q e.0 changes (Some e.1) (change_between had (e ∷ rest) q) (change_between had rest q)
@@ -120,9 +146,11 @@ module _ (changes next : Changes) (q : Name) where
     at_name : eq_by_cmp name_cmp q name ≡ true → before ≡ cond (same_entry old new) None (Some (Some new))
     at_name tied = ap₂ change_of (here q (name, old) had_rest tied) (here q (name, new) wanted_rest tied)
 
-    kept_or_changed : (b : Bool) → same_entry old new ≡ b → next ≡ cond b changes (map.insert changes name (Some new)) → option_or after (map.get next q) ≡ option_or before (map.get changes q)
+    kept_or_changed : (b : Bool) → same_entry old new ≡ b → next ≡ cond b changes (map.insert changes name (Some new))
+        → option_or after (map.get next q) ≡ option_or before (map.get changes q)
     kept_or_changed true is made =
-        ap (λ m. option_or after (map.get m q)) made ∙ ap (λ o. option_or o (map.get changes q)) (by (tied_or_not {R = name_cmp} name_cmp-IsAntisymmetric q name))
+        ap (λ m. option_or after (map.get m q)) made
+        ∙ ap (λ o. option_or o (map.get changes q)) (by (tied_or_not {R = name_cmp} name_cmp-IsAntisymmetric q name))
       where
         by : (eq_by_cmp name_cmp q name ≡ false) ⊎ ((eq_by_cmp name_cmp q name ≡ true) × (q ≡ name)) → after ≡ before
         by (inl other) = elsewhere other
@@ -131,7 +159,12 @@ module _ (changes next : Changes) (q : Name) where
         ap (λ m. option_or after (map.get m q)) made
         ∙ added q name changes (Some new) before after elsewhere (λ tied same. (nothing same, at_name tied ∙ ap (λ b. cond b None (Some (Some new))) is))
 
-  pub changed : (had had_rest wanted wanted_rest : List (Name × Entry)) (name : Name) (old new : Entry) → had ≡ (name, old) ∷ had_rest → wanted ≡ (name, new) ∷ wanted_rest → T (below_all name_cmp name had_rest) → T (below_all name_cmp name wanted_rest) → next ≡ cond (same_entry old new) changes (map.insert changes name (Some new)) → option_or (change_between had_rest wanted_rest q) (map.get next q) ≡ option_or (change_between had wanted q) (map.get changes q)
+  pub changed : (had had_rest wanted wanted_rest : List (Name × Entry)) (name : Name) (old new : Entry)
+      → had ≡ (name, old) ∷ had_rest → wanted ≡ (name, new) ∷ wanted_rest → T (below_all name_cmp name had_rest)
+      → T (below_all name_cmp name wanted_rest)
+      → next ≡ cond (same_entry old new) changes (map.insert changes name (Some new))
+      → option_or (change_between had_rest wanted_rest q) (map.get next q)
+      ≡ option_or (change_between had wanted q) (map.get changes q)
   changed had had_rest wanted wanted_rest name old new is wanted_is below beside made =
       kept_or_changed name old new had_rest wanted_rest below beside (same_entry old new) refl made
       ∙ ap₂ (λ xs ys. option_or (change_between xs ys q) (map.get changes q)) (sym is) (sym wanted_is)

@@ -35,18 +35,24 @@ use Rattle.store_verdict.specs.declared.writing.WrittenFile.{WrittenFile}
 
 -- what the file of a mount is to hold, by what is wanted there and what it keeps for others
 abbrev pub contents_of : List MountedFile → ℕ × KeyMap → KeyMap
-contents_of files part = option_map_or (λ file. relative file.mount.at (with_all part.1 (shadow_of file.state))) (slice_get files part.0) no_keys
+contents_of files part =
+    option_map_or (λ file. relative file.mount.at (with_all part.1 (shadow_of file.state))) (slice_get files part.0) no_keys
 
 abbrev pub file_of : List MountedFile → ℕ × KeyMap → FileToWrite
 file_of files part = record { mount = part.0; contents = contents_of files part }
 
 -- its text
 abbrev pub written_of : Formats → List Mount → FileToWrite → WrittenFile
-written_of formats mounts file = record { mount = file.mount; bytes = option_map_or (λ mount. formats.text mount.kind file.contents) (slice_get mounts file.mount) [] }
+written_of formats mounts file =
+    record {
+      mount = file.mount;
+      bytes = option_map_or (λ mount. formats.text mount.kind file.contents) (slice_get mounts file.mount) [];
+    }
 
 -- texts by the names of their files
 abbrev pub with_written : List Mount → WrittenFile → List (List ℕ × List ℕ) → List (List ℕ × List ℕ)
-with_written mounts written texts = option_map_or (λ mount. put text_cmp mount.file written.bytes texts) (slice_get mounts written.mount) texts
+with_written mounts written texts =
+    option_map_or (λ mount. put text_cmp mount.file written.bytes texts) (slice_get mounts written.mount) texts
 
 abbrev pub by_name : List Mount → List WrittenFile → List (List ℕ × List ℕ)
 by_name mounts [] = []
@@ -55,16 +61,19 @@ by_name mounts (written ∷ all) = with_written mounts written (by_name mounts a
 -- ---- what is refused of each
 
 abbrev pub long_told : List Mount → List ℕ → KeyMap → Option Early
-long_told table mounts keys = option_map (λ long. ValueTooLong long.0 long.1) (first_long_in (points_at table) mounts keys)
+long_told table mounts keys =
+    option_map (λ long. ValueTooLong long.0 long.1) (first_long_in (points_at table) mounts keys)
 
 abbrev pub heavy_at : List Mount → FileToWrite → Option Early
 heavy_at mounts file = option_and_then (λ mount. heavy_contents file.mount file.contents) (slice_get mounts file.mount)
 
 abbrev pub long_at : List Mount → WrittenFile → Option Early
-long_at mounts written = option_and_then (λ mount. long_text written.mount written.bytes) (slice_get mounts written.mount)
+long_at mounts written =
+    option_and_then (λ mount. long_text written.mount written.bytes) (slice_get mounts written.mount)
 
 abbrev pub table_at : List Mount → ℕ × KeyMap → Option Early
-table_at mounts part = option_and_then (λ mount. if name_eq mount.at own_point then fault_of_table (table_of part.1) else None) (slice_get mounts part.0)
+table_at mounts part =
+    option_and_then (λ mount. if name_eq mount.at own_point then fault_of_table (table_of part.1) else None) (slice_get mounts part.0)
 
 -- a fault is that of what is told
 pub record Tells (mounts : List Mount) (told : Option Early) (why : PrepareFault) : Type 0 where
@@ -79,7 +88,8 @@ IsTold mounts told why = UnlessMemory fault.Memory (Tells mounts told why) why
 -- ---- what formats can hold
 
 abbrev pub IsStorableFile : Formats → List Mount → FileToWrite → Type 0
-IsStorableFile formats mounts file = (mount : Mount) → slice_get mounts file.mount ≡ Some mount → formats.IsStorable mount.kind file.contents
+IsStorableFile formats mounts file =
+    (mount : Mount) → slice_get mounts file.mount ≡ Some mount → formats.IsStorable mount.kind file.contents
 
 -- the format of a file can't hold a key, and a fault tells the whole name
 pub record BreaksFile (formats : Formats) (mounts : List Mount) (file : FileToWrite) (why : PrepareFault) : Type 0 where
@@ -104,7 +114,8 @@ IsSoundFile mounts file = (mount : Mount) → slice_get mounts file.mount ≡ So
 
 -- a format can be asked for its text: it is within the limits, and the whole names are names
 abbrev pub IsWritable : List Mount → FileToWrite → Type 0
-IsWritable mounts file = (mount : Mount) → slice_get mounts file.mount ≡ Some mount → IsLimited file.contents × AreNames mount.at file.contents
+IsWritable mounts file =
+    (mount : Mount) → slice_get mounts file.mount ≡ Some mount → IsLimited file.contents × AreNames mount.at file.contents
 
 -- ---- all of them
 

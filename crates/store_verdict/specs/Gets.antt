@@ -16,7 +16,8 @@ use Rattle.store_verdict.specs.declared.records.Record.{Record}
 pub record Gets (store : Store) (keys : KeyMap) (front : ℕ) (parent : Name) (old new : Record) (found : KeyMap) : Type 0 where
   pub good : first_bad store parent ≡ None
   pub keys_are : found ≡ got store keys (handle_of old) parent
-  pub record_is : record_of new ≡ keeping (involved_in (points_of store) parent) front (wants (points_of store) keys) (record_of old)
+  pub record_is : record_of new
+      ≡ keeping (involved_in (points_of store) parent) front (wants (points_of store) keys) (record_of old)
 
 -- the lowest bad mount, and the record stays
 pub record IsBad (store : Store) (parent : Name) (old new : Record) (mount : ℕ) : Type 0 where

@@ -27,4 +27,5 @@ conflict_of block = option_map (λ b. model.Conflict b.mount b.by) block
 
 -- a commit, unless the history with it weighs too much
 abbrev pub unless_full : ℕ → Commit → ℕ → Option (List FileText) → Late
-unless_full weight commit aside renewed = if nat_lt heaviest_history weight then HistoryFull (saturated weight) else Commits commit aside renewed
+unless_full weight commit aside renewed =
+    if nat_lt heaviest_history weight then HistoryFull (saturated weight) else Commits commit aside renewed

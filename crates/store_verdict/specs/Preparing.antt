@@ -46,4 +46,5 @@ pub record IsRefusedSet (formats : Formats) (store : Store) (set : model.Prepare
 
 -- that of the definitions is
 abbrev pub IsRefused : Formats → Store → ℕ → Record → Name → KeyMap → PrepareFault → Type 0
-IsRefused formats store handle rec parent keys why = IsRefusedSet formats store (prepared (points_of store) handle rec parent keys) why
+IsRefused formats store handle rec parent keys why =
+    IsRefusedSet formats store (prepared (points_of store) handle rec parent keys) why

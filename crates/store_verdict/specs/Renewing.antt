@@ -37,12 +37,15 @@ pub record MayRenew (formats : Formats) (store : Store) (keys : KeyMap) (touched
 -- the texts of the touched files were made of these keys, where one of the mounts counts by key; else they weren't
 abbrev pub AreRenewed : Formats → Store → KeyMap → List ℕ → Option (List FileText) → Type 0
 AreRenewed formats store keys touched None = list_any (counts_keys store) touched ≡ false
-AreRenewed formats store keys touched (Some texts) = HaveOwnFiles store.mounts → texts ≡ as_entry (texts_at formats store keys touched)
+AreRenewed formats store keys touched (Some texts) =
+    HaveOwnFiles store.mounts → texts ≡ as_entry (texts_at formats store keys touched)
 
 -- no file would be too large, with the texts; or one would
 abbrev pub IsRenewal : Formats → Store → KeyMap → List ℕ → Renewal → Type 0
-IsRenewal formats store keys touched (renewal.Texts renewed) = (first_some (too_large_at formats store keys) touched ≡ None) × AreRenewed formats store keys touched renewed
-IsRenewal formats store keys touched (renewal.TooLarge mount bytes) = first_some (too_large_at formats store keys) touched ≡ Some (model.TooLarge mount bytes)
+IsRenewal formats store keys touched (renewal.Texts renewed) =
+    (first_some (too_large_at formats store keys) touched ≡ None) × AreRenewed formats store keys touched renewed
+IsRenewal formats store keys touched (renewal.TooLarge mount bytes) =
+    first_some (too_large_at formats store keys) touched ≡ Some (model.TooLarge mount bytes)
 
 -- a set that is a commit brings its texts
 abbrev pub BringsTexts : Formats → Store → KeyMap → List ℕ → Late → Type 0
@@ -70,10 +73,13 @@ large_at formats mounts file =
 
 -- its text was made, or it would be too large
 abbrev pub IsAnew : Formats → List Mount → FileToWrite → Anew → Type 0
-IsAnew formats mounts file (anew.Text written) = (large_at formats mounts file ≡ None) × (written ≡ written_of formats mounts file)
+IsAnew formats mounts file (anew.Text written) =
+    (large_at formats mounts file ≡ None) × (written ≡ written_of formats mounts file)
 IsAnew formats mounts file (anew.TooLarge bytes) = large_at formats mounts file ≡ Some (model.TooLarge file.mount bytes)
 
 -- so it is for some files: all texts were made, or this is the first one that would be too large
 abbrev pub AreAnew : Formats → List Mount → List FileToWrite → Written → Type 0
-AreAnew formats mounts files (written.All all) = (first_some (large_at formats mounts) files ≡ None) × (all.items ≡ over (written_of formats mounts) files)
-AreAnew formats mounts files (written.TooLarge mount bytes) = first_some (large_at formats mounts) files ≡ Some (model.TooLarge mount bytes)
+AreAnew formats mounts files (written.All all) =
+    (first_some (large_at formats mounts) files ≡ None) × (all.items ≡ over (written_of formats mounts) files)
+AreAnew formats mounts files (written.TooLarge mount bytes) =
+    first_some (large_at formats mounts) files ≡ Some (model.TooLarge mount bytes)

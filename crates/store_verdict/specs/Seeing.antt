@@ -11,7 +11,8 @@ use Rattle.store_verdict.specs.declared.seeing.Seeing.TheVariants.{All, Missing}
 
 -- what was seen is what the record has
 abbrev pub AreSeen : Record → List ℕ → List Seen → Type 0
-AreSeen rec mounts seen = over {B = ℕ × Option ℕ} (λ one. (one.mount, Some one.front)) seen ≡ over {B = ℕ × Option ℕ} (λ m. (m, front_in rec m)) mounts
+AreSeen rec mounts seen =
+    over {B = ℕ × Option ℕ} (λ one. (one.mount, Some one.front)) seen ≡ over {B = ℕ × Option ℕ} (λ m. (m, front_in rec m)) mounts
 
 -- the first mount of which it has none
 abbrev pub unseen : Record → List ℕ → Option Early

@@ -24,7 +24,8 @@ impl Record {
 
 /// Whether a record has the fronts with which some mounts were seen.
 fn has_fronts(rec: &Record, seen: &[Seen]) -> bool
-    ensures { result ≡ list_all (λ m. option_eq nat_eq (front_in (record_of rec.now) m) (front_of seen.now m)) (over (λ one. one.mount) seen.now) }
+    ensures { result
+        ≡ list_all (λ m. option_eq nat_eq (front_in (record_of rec.now) m) (front_of seen.now m)) (over (λ one. one.mount) seen.now) }
 {
     for one in seen {
         if rec.fetched(one.mount) != front_of(seen, one.mount) {

@@ -93,7 +93,9 @@ pub fn judge<F: Formats, P: Patterns>(
     keys: &KeySet,
     set: &Prepared,
 ) -> Result<Late, Memory>
-    requires { (procs : ℕ → KeyMap) → conflict (store_of mounted.now procs) history.now.commits (prepared_of set.now) ≡ None → MayRenew (formats_of F.Formats) (store_of mounted.now procs) keys.now set.now.touched }
+    requires { (procs : ℕ → KeyMap)
+        → conflict (store_of mounted.now procs) history.now.commits (prepared_of set.now) ≡ None
+        → MayRenew (formats_of F.Formats) (store_of mounted.now procs) keys.now set.now.touched }
     ensures late { IfOk result (λ made. (procs : ℕ → KeyMap) (before : KeyMap) → keys.now ≡ after before set.now.changes
         → IsLate (formats_of F.Formats) (store_of mounted.now procs) history.now.commits before (prepared_of set.now) (late_of (has_risen (P.refusals patterns.old) (P.refusals patterns.new)) made)) }
     ensures renewed { IfOk result (λ made. (procs : ℕ → KeyMap) → BringsTexts (formats_of F.Formats) (store_of mounted.now procs) keys.now set.now.touched made) }
@@ -128,7 +130,8 @@ pub fn judge<F: Formats, P: Patterns>(
 
 /// The lowest touched mount that a commit blocks.
 fn first_block(table: &MountTable, history: &History, set: &Prepared) -> Option<Block>
-    ensures { (store : Store) → store.mounts ≡ table.now → conflict_of result ≡ conflict store history.now.commits (prepared_of set.now) }
+    ensures { (store : Store) → store.mounts ≡ table.now
+        → conflict_of result ≡ conflict store history.now.commits (prepared_of set.now) }
 {
     for mount in set.touched.as_slice() {
         let mount = *mount as usize;
@@ -141,7 +144,8 @@ fn first_block(table: &MountTable, history: &History, set: &Prepared) -> Option<
 
 /// The commit that blocks a mount.
 fn blocking(table: &MountTable, history: &History, set: &Prepared, mount: usize) -> Option<u64>
-    ensures { (store : Store) → store.mounts ≡ table.now → option_map (Conflict mount) result ≡ conflict_at store history.now.commits (prepared_of set.now) mount }
+    ensures { (store : Store) → store.mounts ≡ table.now
+        → option_map (Conflict mount) result ≡ conflict_at store history.now.commits (prepared_of set.now) mount }
 {
     let front = front_of(set.seen.as_slice(), mount)?;
     if counts_by_key(table, mount) {
@@ -201,7 +205,8 @@ fn unless_full(
     left_aside: u64,
     renewed: Option<List<FileText>>,
 ) -> Late
-    ensures { result ≡ unless_full (history_weight (history.now.commits ++ log.commit_of commit ∷ [])) commit left_aside renewed }
+    ensures { result
+        ≡ unless_full (history_weight (history.now.commits ++ log.commit_of commit ∷ [])) commit left_aside renewed }
 {
     let weight = history.weight().saturating_add(commit.weight());
     if weight > HEAVIEST_HISTORY {

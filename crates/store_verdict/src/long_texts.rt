@@ -59,7 +59,8 @@ fn long_text_if_owned(
     entry: &Entry,
 ) -> Option<u64>
     requires { IsStrictlySortedBy name_cmp points.now }
-    ensures { result ≡ (if list_any (λ i. owns points.now i name.now) mounts.now then long_text (entry_of entry.now) else None) }
+    ensures { result
+        ≡ (if list_any (λ i. owns points.now i name.now) mounts.now then long_text (entry_of entry.now) else None) }
 {
     // the owner is looked for among all points, and few texts are too long
     let Some(bytes) = long_text(entry) else {

@@ -114,7 +114,8 @@ impl Record {
     /// Keeps some keys of some mounts from a front on: the copies of a get. It takes no memory.
     pub fn keep(&mut self, front: u64, parts: List<Part>)
         requires { All (λ part. part.mount < places_of self.old) parts }
-        ensures kept { (mounts : List ℕ) (keys : ℕ → KeyMap) → numbered parts ≡ over (λ m. (m, keys m)) mounts → record_of self.new ≡ keeping mounts front keys (record_of self.old) }
+        ensures kept { (mounts : List ℕ) (keys : ℕ → KeyMap) → numbered parts ≡ over (λ m. (m, keys m)) mounts
+            → record_of self.new ≡ keeping mounts front keys (record_of self.old) }
         ensures handle { handle_of self.new ≡ handle_of self.old }
         ensures places { places_of self.new ≡ places_of self.old }
         ensures proc { proc_of self.new ≡ proc_of self.old }
@@ -127,7 +128,8 @@ impl Record {
     pub fn store(&mut self, table: &MountTable, number: u64, parts: List<Part>)
         requires places { All (λ part. part.mount < places_of self.old) parts }
         requires count { (record_of self.old).committed < number }
-        ensures stored { (store : Store) (mounts : List ℕ) (keys : ℕ → KeyMap) → store.mounts ≡ table.now → numbered parts ≡ over (λ m. (m, keys m)) mounts
+        ensures stored { (store : Store) (mounts : List ℕ) (keys : ℕ → KeyMap) → store.mounts ≡ table.now
+            → numbered parts ≡ over (λ m. (m, keys m)) mounts
             → record_of self.new ≡ storing store mounts number keys (record_of self.old) }
         ensures handle { handle_of self.new ≡ handle_of self.old }
         ensures places { places_of self.new ≡ places_of self.old }
@@ -178,7 +180,8 @@ fn copy_of(place: &Option<Fetched>) -> Result<Option<Fetched>, Memory>
 fn keep_all(places: &mut [Option<Fetched>], front: u64, parts: Vec<Part>)
     requires { All (λ part. part.mount < length places.old) parts.items }
     ensures len { length places.new ≡ length places.old }
-    ensures kept { (m : ℕ) → fetched_at places.new m ≡ kept_parts (λ _. false) front (numbered parts.items) (fetched_at places.old) m }
+    ensures kept { (m : ℕ)
+        → fetched_at places.new m ≡ kept_parts (λ _. false) front (numbered parts.items) (fetched_at places.old) m }
 {
     for part in parts {
         put_part(places, false, front, part);
@@ -189,7 +192,9 @@ fn keep_all(places: &mut [Option<Fetched>], front: u64, parts: Vec<Part>)
 fn store_all(places: &mut [Option<Fetched>], table: &MountTable, number: u64, parts: Vec<Part>)
     requires { All (λ part. part.mount < length places.old) parts.items }
     ensures len { length places.new ≡ length places.old }
-    ensures kept { (m : ℕ) → fetched_at places.new m ≡ kept_parts (counts_in table.now) number (numbered parts.items) (fetched_at places.old) m }
+    ensures kept { (m : ℕ)
+        → fetched_at places.new m
+        ≡ kept_parts (counts_in table.now) number (numbered parts.items) (fetched_at places.old) m }
 {
     for part in parts {
         let by_key = counts_by_key(table, part.mount);
@@ -201,7 +206,8 @@ fn store_all(places: &mut [Option<Fetched>], table: &MountTable, number: u64, pa
 fn put_part(places: &mut [Option<Fetched>], by_key: bool, number: u64, part: Part)
     requires { part.mount < length places.old }
     ensures len { length places.new ≡ length places.old }
-    ensures kept { (m : ℕ) → fetched_at places.new m ≡ with_part (λ _. by_key) number (part.mount, part.keys) (fetched_at places.old) m }
+    ensures kept { (m : ℕ)
+        → fetched_at places.new m ≡ with_part (λ _. by_key) number (part.mount, part.keys) (fetched_at places.old) m }
 {
     let Part { mount, keys } = part;
     if let Some(front) = front_from(&places[mount], by_key, number) {

@@ -57,7 +57,8 @@ pub fn renew<F: Formats>(
     keys: &KeySet,
     touched: &[u32],
 ) -> Result<Renewal, Memory>
-    requires { (procs : ℕ → KeyMap) → MayRenew (formats_of F.Formats) (store_of mounted.now procs) keys.now touched.now }
+    requires { (procs : ℕ → KeyMap)
+        → MayRenew (formats_of F.Formats) (store_of mounted.now procs) keys.now touched.now }
     ensures { IfOk result (λ made. (procs : ℕ → KeyMap) → IsRenewal (formats_of F.Formats) (store_of mounted.now procs) keys.now touched.now made) }
 {
     let table = mounted.table();

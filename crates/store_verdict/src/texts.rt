@@ -37,7 +37,8 @@ pub fn texts_of<F: Formats>(
     keys: &KeySet,
     touched: &[Part],
 ) -> Result<List<FileText>, PrepareFault>
-    requires { first_long_in (points_at (over (λ file. file.mount) mounted.now)) mounts.now keys.now ≡ None → AllByRecursion (λ part. AreShort part.keys) touched.now }
+    requires { first_long_in (points_at (over (λ file. file.mount) mounted.now)) mounts.now keys.now ≡ None
+        → AllByRecursion (λ part. AreShort part.keys) touched.now }
     ensures texts { IfOk result (λ texts. (procs : ℕ → KeyMap) (set : Set) → IsAsked (store_of mounted.now procs) mounts.now keys.now (numbered touched.now) set → HasTexts (formats_of F.Formats) (store_of mounted.now procs) set texts) }
     ensures refused { IfErr result (λ why. UnlessMemory fault.Memory ((procs : ℕ → KeyMap) (set : Set) → IsAsked (store_of mounted.now procs) mounts.now keys.now (numbered touched.now) set → IsRefusedSet (formats_of F.Formats) (store_of mounted.now procs) set why) why) }
 {

@@ -21,7 +21,8 @@ use Rattle.tool_commands.proofs.TreeLemmas.{entries-below}
 use Rattle.general_words.proofs.Maps.{entries-empty}
 
 -- to set a key and others is to set the key and those with it
-insert-with_all : (others keys : KeyMap) (name : Name) (entry : Entry) → map.insert (with_all others keys) name entry ≡ with_all (map.insert others name entry) keys
+insert-with_all : (others keys : KeyMap) (name : Name) (entry : Entry)
+    → map.insert (with_all others keys) name entry ≡ with_all (map.insert others name entry) keys
 insert-with_all others keys name entry = map.same_map name_cmp_total name_cmp-IsAntisymmetric _ _ (λ other.
     map.get-insert name_cmp_total (with_all others keys) name entry other
     ∙ ap (cond (eq_by_cmp name_cmp other name) (Some entry)) (get-with_all others keys other)
@@ -29,18 +30,21 @@ insert-with_all others keys name entry = map.same_map name_cmp_total name_cmp-Is
     ∙ ap (λ found. option_or found (map.get keys other)) (sym (map.get-insert name_cmp_total others name entry other))
     ∙ sym (get-with_all (map.insert others name entry) keys other))
   where
-    either : (b : Bool) (found former : Option Entry) → cond b (Some entry) (option_or found former) ≡ option_or (cond b (Some entry) found) former
+    either : (b : Bool) (found former : Option Entry)
+        → cond b (Some entry) (option_or found former) ≡ option_or (cond b (Some entry) found) former
     either true found former = refl
     either false found former = refl
 
-brought-with_all : (from to : Name) (others keys : KeyMap) (taken : List (Name × Entry)) → with_all (with_brought from to others taken) keys ≡ with_brought from to (with_all others keys) taken
+brought-with_all : (from to : Name) (others keys : KeyMap) (taken : List (Name × Entry))
+    → with_all (with_brought from to others taken) keys ≡ with_brought from to (with_all others keys) taken
 brought-with_all from to others keys [] = refl
 brought-with_all from to others keys (key ∷ more) =
     brought-with_all from to (map.insert others (brought from to key.0) key.1) keys more
     ∙ ap (λ set. with_brought from to set more) (sym (insert-with_all others keys (brought from to key.0) key.1))
 
 -- keys that are brought into a map of their own are set with it
-pub brought-together : (from to : Name) (keys : KeyMap) (taken : List (Name × Entry)) → with_all (with_brought from to no_keys taken) keys ≡ with_brought from to keys taken
+pub brought-together : (from to : Name) (keys : KeyMap) (taken : List (Name × Entry))
+    → with_all (with_brought from to no_keys taken) keys ≡ with_brought from to keys taken
 brought-together from to keys taken =
     brought-with_all from to no_keys keys taken
     ∙ ap (λ es. with_brought from to (with_keys es keys) taken) (entries-empty name_cmp Entry)
@@ -59,12 +63,15 @@ all_one {A = A} P x p = by_place
     by_place zero d within = p
     by_place (suc k) d within = absurd (omega (arith, within))
 
-pub sources-below : (extent : Extent) (name : Name) (keys : KeyMap) → All (λ key. is_at_or_below name key.0 ≡ true) (map.entries (sources extent name keys))
+pub sources-below : (extent : Extent) (name : Name) (keys : KeyMap)
+    → All (λ key. is_at_or_below name key.0 ≡ true) (map.entries (sources extent name keys))
 sources-below WithBelow name keys =
     subst (All (λ key. is_at_or_below name key.0 ≡ true)) (sym (entries-below name keys)) (filter_passes (λ (key : Name × Entry). is_at_or_below name key.0) (map.entries keys))
 sources-below Alone name keys = by_found (map.get keys name)
   where
-    by_found : (found : Option Entry) → All (λ key. is_at_or_below name key.0 ≡ true) (map.entries (elim found [ None ↦ no_keys | Some entry ↦ map.insert no_keys name entry ]))
-    by_found None = subst (All (λ key. is_at_or_below name key.0 ≡ true)) (sym (entries-empty name_cmp Entry)) (all_none (λ (key : Name × Entry). is_at_or_below name key.0 ≡ true))
+    by_found : (found : Option Entry)
+        → All (λ key. is_at_or_below name key.0 ≡ true) (map.entries (elim found [ None ↦ no_keys | Some entry ↦ map.insert no_keys name entry ]))
+    by_found None =
+        subst (All (λ key. is_at_or_below name key.0 ≡ true)) (sym (entries-empty name_cmp Entry)) (all_none (λ (key : Name × Entry). is_at_or_below name key.0 ≡ true))
     by_found (Some entry) =
         subst (All (λ key. is_at_or_below name key.0 ≡ true)) (sym (map.entries-insert name_cmp_total no_keys name entry ∙ ap (put name_cmp name entry) (entries-empty name_cmp Entry))) (all_one (λ (key : Name × Entry). is_at_or_below name key.0 ≡ true) (name, entry) (at_or_below_itself name))

@@ -15,7 +15,8 @@ pub entries-below : (above : Name) (keys : KeyMap) → map.entries (at_or_below 
 entries-below above keys = entries-retain name_cmp_total name_cmp-IsAntisymmetric keys (is_at_or_below above)
 
 -- what the items that pass a test give
-pub flat_map-where : {X A : Type 0} (p : X → Bool) (f : X → List A) (xs : List X) → flat_map (λ x. cond (p x) (f x) []) xs ≡ flat_map f (filter p xs)
+pub flat_map-where : {X A : Type 0} (p : X → Bool) (f : X → List A) (xs : List X)
+    → flat_map (λ x. cond (p x) (f x) []) xs ≡ flat_map f (filter p xs)
 flat_map-where p f [] = refl
 flat_map-where p f (x ∷ xs) =
     let rest = flat_map-where p f xs in

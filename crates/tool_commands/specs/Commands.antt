@@ -34,18 +34,35 @@ pub record Row : Type 0 where
 
 -- the commands on a key, a row each
 abbrev pub row_of : Name → Action → Row
-row_of name Get = record { parent = every_key; step = λ keys. Tells (got name (looked_up keys name)); statuses = 11 ∷ [] }
+row_of name Get =
+    record { parent = every_key; step = λ keys. Tells (got name (looked_up keys name)); statuses = 11 ∷ [] }
 row_of name (Set value) = record { parent = name; step = λ keys. set_in keys name value; statuses = [] }
-row_of name (Remove extent) = record { parent = name; step = λ keys. removed name (sources extent name keys) (others extent name keys); statuses = 11 ∷ [] }
+row_of name (Remove extent) =
+    record {
+      parent = name;
+      step = λ keys. removed name (sources extent name keys) (others extent name keys);
+      statuses = 11 ∷ [];
+    }
 row_of name Names = record { parent = name; step = λ keys. Tells (listed keys name); statuses = [] }
-row_of name (GetMeta meta) = record { parent = every_key; step = λ keys. Tells (meta_got name meta (looked_up keys name)); statuses = 11 ∷ [] }
-row_of name (SetMeta meta text) = record { parent = name; step = λ keys. meta_set_in keys name meta text; statuses = [] }
-row_of name MetaNames = record { parent = every_key; step = λ keys. Tells (meta_listed name (looked_up keys name)); statuses = 11 ∷ [] }
-row_of name (Bring way extent to) = record { parent = every_key; step = λ keys. brought_in keys name way extent to; statuses = 2 ∷ 11 ∷ [] }
-row_of name (MountFile file kind by_key) = record { parent = own_point; step = λ keys. mounted (table.added keys (spelling name) file kind by_key); statuses = [] }
-row_of name Unmount = record { parent = own_point; step = λ keys. mounted (table.removed keys (spelling name)); statuses = [] }
+row_of name (GetMeta meta) =
+    record { parent = every_key; step = λ keys. Tells (meta_got name meta (looked_up keys name)); statuses = 11 ∷ [] }
+row_of name (SetMeta meta text) =
+    record { parent = name; step = λ keys. meta_set_in keys name meta text; statuses = [] }
+row_of name MetaNames =
+    record { parent = every_key; step = λ keys. Tells (meta_listed name (looked_up keys name)); statuses = 11 ∷ [] }
+row_of name (Bring way extent to) =
+    record { parent = every_key; step = λ keys. brought_in keys name way extent to; statuses = 2 ∷ 11 ∷ [] }
+row_of name (MountFile file kind by_key) =
+    record {
+      parent = own_point;
+      step = λ keys. mounted (table.added keys (spelling name) file kind by_key);
+      statuses = [];
+    }
+row_of name Unmount =
+    record { parent = own_point; step = λ keys. mounted (table.removed keys (spelling name)); statuses = [] }
 row_of name (Replace others) = record { parent = name; step = λ keys. replaced name others keys; statuses = [] }
-row_of name (Merge strategy our their base) = record { parent = every_key; step = λ keys. merged_in keys strategy our their base name; statuses = 2 ∷ 12 ∷ [] }
+row_of name (Merge strategy our their base) =
+    record { parent = every_key; step = λ keys. merged_in keys strategy our their base name; statuses = 2 ∷ 12 ∷ [] }
 
 -- the parent whose keys a command gets, and sets where it sets any
 abbrev pub parent_of : Name → Action → Name

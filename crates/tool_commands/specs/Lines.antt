@@ -51,4 +51,5 @@ counting by_key = if by_key then codes " keys" else []
 
 -- what `mounts` prints of a mount: its mountpoint, its file, the word of its format, and how its conflicts are counted
 abbrev pub line_of_mount : Mount → List ℕ
-line_of_mount mount = shown mount.at ++ (32 ∷ (mount.file ++ (32 ∷ (kind_word mount.kind ++ (counting mount.by_key ++ 10 ∷ [])))))
+line_of_mount mount =
+    shown mount.at ++ (32 ∷ (mount.file ++ (32 ∷ (kind_word mount.kind ++ (counting mount.by_key ++ 10 ∷ [])))))

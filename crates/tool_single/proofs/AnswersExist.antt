@@ -44,59 +44,94 @@ this Answered answer answers = λ none. none answer answers
 some_weaker : (P Q : Answer → Type 0) → ((answer : Answer) → P answer → Q answer) → Some P → Some Q
 some_weaker P Q follows some = λ none. some (λ answer p. none answer (follows answer p))
 
-step_exists : (MayRefuse : List ℕ → Type 0) → RefusesEach MayRefuse → (files : List MountedFile) (parent : Name) (step : Step) → Some (AnswersStep MayRefuse files parent step)
-step_exists MayRefuse each files parent (Tells report) = this (AnswersStep MayRefuse files parent (Tells report)) (tells report) refl
+step_exists : (MayRefuse : List ℕ → Type 0) → RefusesEach MayRefuse
+    → (files : List MountedFile) (parent : Name) (step : Step) → Some (AnswersStep MayRefuse files parent step)
+step_exists MayRefuse each files parent (Tells report) =
+    this (AnswersStep MayRefuse files parent (Tells report)) (tells report) refl
 step_exists MayRefuse each files parent (Sets keys out) = Set-some MayRefuse each files parent keys out
 
-got_exists : (MayRefuse : List ℕ → Type 0) → RefusesEach MayRefuse → (files : List MountedFile) (name : Name) (action : Action) (keys : Result KeyMap GetFault) → Some (AnswersGot MayRefuse files name action keys)
-got_exists MayRefuse each files name action (Ok keys) = step_exists MayRefuse each files (parent_of name action) (step_of keys name action)
-got_exists MayRefuse each files name action (Err fault) = this (AnswersGot MayRefuse files name action (Err fault)) (refused 5 (line_of_get fault)) refl
+got_exists : (MayRefuse : List ℕ → Type 0) → RefusesEach MayRefuse
+    → (files : List MountedFile) (name : Name) (action : Action) (keys : Result KeyMap GetFault)
+    → Some (AnswersGot MayRefuse files name action keys)
+got_exists MayRefuse each files name action (Ok keys) =
+    step_exists MayRefuse each files (parent_of name action) (step_of keys name action)
+got_exists MayRefuse each files name action (Err fault) =
+    this (AnswersGot MayRefuse files name action (Err fault)) (refused 5 (line_of_get fault)) refl
 
 text_exists : (name : Name) (kind : Kind) (keys : KeyMap) → Some (AnswersText name kind keys)
 text_exists name kind keys = by (laws.storable-or_breaks kind keys)
   where
     by : (all.IsStorable kind keys ⊎ ((key : Name) × all.BreaksAt kind keys key)) → Some (AnswersText name kind keys)
     by (inl storable) = this (AnswersText name kind keys) (done (all.text kind keys)) (Written storable refl)
-    by (inr breaks) = this (AnswersText name kind keys) (refused 5 (not_storable name (joined name breaks.0))) (NotHeld breaks.0 breaks.1 refl)
+    by (inr breaks) =
+        this (AnswersText name kind keys) (refused 5 (not_storable name (joined name breaks.0))) (NotHeld breaks.0 breaks.1 refl)
 
 below_exists : (name : Name) (kind : Kind) (keys : Result KeyMap GetFault) → Some (AnswersBelow name kind keys)
 below_exists name kind (Ok keys) = text_exists name kind (relative name keys)
 below_exists name kind (Err fault) = this (AnswersBelow name kind (Err fault)) (refused 5 (line_of_get fault)) refl
 
-checked_exists : (MayRefuse : List ℕ → Type 0) → RefusesEach MayRefuse → (name : Name) (keys : Result KeyMap GetFault) → Some (AnswersChecked MayRefuse name keys)
-checked_exists MayRefuse each name (Ok keys) = λ none. some_by_keys MayRefuse each (checked_keys (is_within name) keys) (λ violations are. none (tells (checked violations)) (violations, are, refl))
-checked_exists MayRefuse each name (Err fault) = this (AnswersChecked MayRefuse name (Err fault)) (refused 5 (line_of_get fault)) refl
+checked_exists : (MayRefuse : List ℕ → Type 0) → RefusesEach MayRefuse → (name : Name) (keys : Result KeyMap GetFault)
+    → Some (AnswersChecked MayRefuse name keys)
+checked_exists MayRefuse each name (Ok keys) =
+    λ none. some_by_keys MayRefuse each (checked_keys (is_within name) keys) (λ violations are. none (tells (checked violations)) (violations, are, refl))
+checked_exists MayRefuse each name (Err fault) =
+    this (AnswersChecked MayRefuse name (Err fault)) (refused 5 (line_of_get fault)) refl
 
-in_exists : (MayRefuse : List ℕ → Type 0) → RefusesEach MayRefuse → (files : List MountedFile) (question : Question) → IsMadeByKeys (over (λ (file : MountedFile). file.mount) files) → NamesFiles question → Some (AnswersIn MayRefuse files question)
+in_exists : (MayRefuse : List ℕ → Type 0) → RefusesEach MayRefuse → (files : List MountedFile) (question : Question)
+    → IsMadeByKeys (over (λ (file : MountedFile). file.mount) files) → NamesFiles question
+    → Some (AnswersIn MayRefuse files question)
 in_exists MayRefuse each files Mounts made names = this (AnswersIn MayRefuse files Mounts) (mounts_told files) refl
 in_exists MayRefuse each files (FileOf name) made names =
     let owner = owner_in-there files name made names in
     this (AnswersIn MayRefuse files (FileOf name)) (file_told owner.0) (subst (λ o. IsSomeAnd o (λ file. file_told owner.0 ≡ file_told file)) (sym owner.1) refl)
 in_exists MayRefuse each files (TextOf name kind) made names = below_exists name kind (got_alone files name)
-in_exists MayRefuse each files (ViolationsOf name) made names = checked_exists MayRefuse each name (got_alone files every_key)
-in_exists MayRefuse each files (On name action) made names = got_exists MayRefuse each files name action (got_alone files (parent_of name action))
+in_exists MayRefuse each files (ViolationsOf name) made names =
+    checked_exists MayRefuse each name (got_alone files every_key)
+in_exists MayRefuse each files (On name action) made names =
+    got_exists MayRefuse each files name action (got_alone files (parent_of name action))
 
-opened_exists : (MayRefuse : List ℕ → Type 0) → RefusesEach MayRefuse → (bytes_of : List ℕ → List ℕ) (opened : Result (List MountedFile) OpenRefusal) (question : Question) → Opens all.Reads all.IsBadAt bytes_of opened → NamesFiles question → IsMade opened → Some (AnswersOpened MayRefuse opened question)
-opened_exists MayRefuse each bytes_of (Ok files) question opens names made = in_exists MayRefuse each files question (opened-made all.Reads all.IsBadAt bytes_of files opens) names
-opened_exists MayRefuse each bytes_of (Err refusal) question opens names made = this (AnswersOpened MayRefuse (Err refusal) question) (refused 5 (line_of_opening refusal)) (made, refl)
+opened_exists : (MayRefuse : List ℕ → Type 0) → RefusesEach MayRefuse
+    → (bytes_of : List ℕ → List ℕ) (opened : Result (List MountedFile) OpenRefusal) (question : Question)
+    → Opens all.Reads all.IsBadAt bytes_of opened → NamesFiles question → IsMade opened
+    → Some (AnswersOpened MayRefuse opened question)
+opened_exists MayRefuse each bytes_of (Ok files) question opens names made =
+    in_exists MayRefuse each files question (opened-made all.Reads all.IsBadAt bytes_of files opens) names
+opened_exists MayRefuse each bytes_of (Err refusal) question opens names made =
+    this (AnswersOpened MayRefuse (Err refusal) question) (refused 5 (line_of_opening refusal)) (made, refl)
 
-over_exists : (MayRefuse : List ℕ → Type 0) → RefusesEach MayRefuse → (question : Question) (bytes_of : List ℕ → List ℕ) → NamesFiles question → Some (AnswersOver MayRefuse question bytes_of)
+over_exists : (MayRefuse : List ℕ → Type 0) → RefusesEach MayRefuse → (question : Question) (bytes_of : List ℕ → List ℕ)
+    → NamesFiles question → Some (AnswersOver MayRefuse question bytes_of)
 over_exists MayRefuse each question bytes_of names =
     let found = Opens-some all.Reads all.IsBadAt laws.Reads-or_bad bytes_of in
     some_weaker (AnswersOpened MayRefuse found.0 question) (AnswersOver MayRefuse question bytes_of) (λ answer answers. record { opened = found.0; opens = found.1; answers = answers }) (opened_exists MayRefuse each bytes_of found.0 question found.1 names found.2)
 
-import_exists : (MayRefuse : List ℕ → Type 0) → RefusesEach MayRefuse → (name : Name) (kind : Kind) (bytes : List ℕ) (bytes_of : List ℕ → List ℕ) → Some (AnswersImport MayRefuse name kind bytes bytes_of)
-import_exists MayRefuse each name kind bytes bytes_of = by (Holds-or_bad all.Reads all.IsBadAt laws.Reads-or_bad name kind bytes)
+import_exists : (MayRefuse : List ℕ → Type 0) → RefusesEach MayRefuse
+    → (name : Name) (kind : Kind) (bytes : List ℕ) (bytes_of : List ℕ → List ℕ)
+    → Some (AnswersImport MayRefuse name kind bytes bytes_of)
+import_exists MayRefuse each name kind bytes bytes_of =
+    by (Holds-or_bad all.Reads all.IsBadAt laws.Reads-or_bad name kind bytes)
   where
-    by : (((keys : KeyMap) × Holds all.Reads name kind bytes keys) ⊎ ((cause : Cause) × IsCause all.Reads all.IsBadAt name kind bytes cause)) → Some (AnswersImport MayRefuse name kind bytes bytes_of)
-    by (inl held) = some_weaker (AnswersOver MayRefuse (On name (Replace held.0)) bytes_of) (AnswersImport MayRefuse name kind bytes bytes_of) (λ answer over. Held held.0 held.1 over) (over_exists MayRefuse each (On name (Replace held.0)) bytes_of tt)
-    by (inr bad) = this (AnswersImport MayRefuse name kind bytes bytes_of) (refused 5 (line_of_get (fault_of name bad.0))) (Bad bad.0 bad.1 refl)
+    by : (((keys : KeyMap) × Holds all.Reads name kind bytes keys) ⊎ ((cause : Cause) × IsCause all.Reads all.IsBadAt name kind bytes cause))
+        → Some (AnswersImport MayRefuse name kind bytes bytes_of)
+    by (inl held) =
+        some_weaker (AnswersOver MayRefuse (On name (Replace held.0)) bytes_of) (AnswersImport MayRefuse name kind bytes bytes_of) (λ answer over. Held held.0 held.1 over) (over_exists MayRefuse each (On name (Replace held.0)) bytes_of tt)
+    by (inr bad) =
+        this (AnswersImport MayRefuse name kind bytes bytes_of) (refused 5 (line_of_get (fault_of name bad.0))) (Bad bad.0 bad.1 refl)
 
-request_exists : (MayRefuse : List ℕ → Type 0) → RefusesEach MayRefuse → (asked : Request) (input : List ℕ) (bytes_of : List ℕ → List ℕ) → ((question : Question) → asked ≡ Asks question → NamesFiles question) → Some (AnswersRequest MayRefuse asked input bytes_of)
-request_exists MayRefuse each (Refuses status text) input bytes_of names = this (AnswersRequest MayRefuse (Refuses status text) input bytes_of) (refused status text) refl
-request_exists MayRefuse each (Bars name) input bytes_of names = this (AnswersRequest MayRefuse (Bars name) input bytes_of) (refused 2 (not_writable name)) refl
-request_exists MayRefuse each (Asks question) input bytes_of names = over_exists MayRefuse each question bytes_of (names question refl)
-request_exists MayRefuse each (Imports name kind) input bytes_of names = import_exists MayRefuse each name kind (taken input) bytes_of
+request_exists : (MayRefuse : List ℕ → Type 0) → RefusesEach MayRefuse
+    → (asked : Request) (input : List ℕ) (bytes_of : List ℕ → List ℕ)
+    → ((question : Question) → asked ≡ Asks question → NamesFiles question)
+    → Some (AnswersRequest MayRefuse asked input bytes_of)
+request_exists MayRefuse each (Refuses status text) input bytes_of names =
+    this (AnswersRequest MayRefuse (Refuses status text) input bytes_of) (refused status text) refl
+request_exists MayRefuse each (Bars name) input bytes_of names =
+    this (AnswersRequest MayRefuse (Bars name) input bytes_of) (refused 2 (not_writable name)) refl
+request_exists MayRefuse each (Asks question) input bytes_of names =
+    over_exists MayRefuse each question bytes_of (names question refl)
+request_exists MayRefuse each (Imports name kind) input bytes_of names =
+    import_exists MayRefuse each name kind (taken input) bytes_of
 
-pub Answers-exists : (MayRefuse : List ℕ → Type 0) → RefusesEach MayRefuse → (words : List (List ℕ)) (input : List ℕ) (files : List ℕ → List ℕ) → Some (Answers MayRefuse words input files)
-Answers-exists MayRefuse each words input files = request_exists MayRefuse each (request words) input files (request-names_files words)
+pub Answers-exists : (MayRefuse : List ℕ → Type 0) → RefusesEach MayRefuse
+    → (words : List (List ℕ)) (input : List ℕ) (files : List ℕ → List ℕ) → Some (Answers MayRefuse words input files)
+Answers-exists MayRefuse each words input files =
+    request_exists MayRefuse each (request words) input files (request-names_files words)

@@ -35,16 +35,20 @@ use Rattle.tool_single.proofs.BrokenLemmas.{told_of_held}
 use Rattle.tool_single.proofs.ServeLemmas.{alone_stopped, alone_unserved, handed_calm, handed_on, serve_calm, serve_unserved, serve_weaker}
 
 -- what only memory can be wanting for stops for nothing else
-pub not_stopped : {E : Type 0} (made : Result code.Report E) (answer : Result code.Report Stop) (stop : Stop) → answer ≡ or_memory made → answer ≡ Err stop → stop ≡ stops.Memory
-not_stopped (Ok report) answer stop is stopped = absurd (let both : ◌≡◌ {A = Result code.Report Stop} (Ok report) (Err stop) = sym is ∙ stopped in cc)
-not_stopped (Err fault) answer stop is stopped = let both : ◌≡◌ {A = Result code.Report Stop} (Err stops.Memory) (Err stop) = sym is ∙ stopped in cc
+pub not_stopped : {E : Type 0} (made : Result code.Report E) (answer : Result code.Report Stop) (stop : Stop)
+    → answer ≡ or_memory made → answer ≡ Err stop → stop ≡ stops.Memory
+not_stopped (Ok report) answer stop is stopped =
+    absurd (let both : ◌≡◌ {A = Result code.Report Stop} (Ok report) (Err stop) = sym is ∙ stopped in cc)
+not_stopped (Err fault) answer stop is stopped =
+    let both : ◌≡◌ {A = Result code.Report Stop} (Err stops.Memory) (Err stop) = sym is ∙ stopped in cc
 
 module _ {S D P : Type 0} (s : sources.Ghosts S) (d : disks.Ghosts D) (p : matchers.Ghosts P) (source source_now : S) (disk : D) (patterns : P) (ended : Ended D P) where
   abbrev seen : Image
   seen = opened_files (d.seen disk)
 
   -- a question is put to the store
-  pub asks-carried : (question : Question) → PutsQuestion d p question disk patterns ended → CarriesOut s d p (Asks question) source source disk patterns ended
+  pub asks-carried : (question : Question) → PutsQuestion d p question disk patterns ended
+      → CarriesOut s d p (Asks question) source source disk patterns ended
   asks-carried question puts = record {
     served = λ tells_disk files doubt calm given fed. puts.served tells_disk files doubt calm;
     unserved = λ tells_disk files doubt calm. serve_unserved d files doubt (AnswersOver (Refusing p patterns ended) question seen) ended.answer disk ended.disk (puts.served tells_disk files doubt calm);
@@ -68,8 +72,11 @@ module _ {S D P : Type 0} (s : sources.Ghosts S) (d : disks.Ghosts D) (p : match
   }
 
   -- an import replaces keys by those that its input holds
-  pub held-carried : (name : Name) (kind : Kind) (keys : KeyMap) → ((bytes : List ℕ) → s.left source ≡ Some bytes → Holds all.Reads name kind (taken bytes) keys) → ((answered : Type 0) → LeavesInput s (Imports name kind) answered source source_now)
-      → s.faults source ≤ s.faults source_now → PutsQuestion d p (On name (Replace keys)) disk patterns ended → CarriesOut s d p (Imports name kind) source source_now disk patterns ended
+  pub held-carried : (name : Name) (kind : Kind) (keys : KeyMap)
+      → ((bytes : List ℕ) → s.left source ≡ Some bytes → Holds all.Reads name kind (taken bytes) keys)
+      → ((answered : Type 0) → LeavesInput s (Imports name kind) answered source source_now)
+      → s.faults source ≤ s.faults source_now → PutsQuestion d p (On name (Replace keys)) disk patterns ended
+      → CarriesOut s d p (Imports name kind) source source_now disk patterns ended
   held-carried name kind keys holds leaves later puts = record {
     served = λ tells_disk files doubt calm bytes is.
         serve_weaker d files doubt Over (AnswersImport (Refusing p patterns ended) name kind (taken bytes) seen) ended.answer disk ended.disk (λ answer over. Held keys (holds bytes is) over) (puts.served tells_disk files doubt calm);
@@ -106,8 +113,11 @@ module _ {S D P : Type 0} (s : sources.Ghosts S) (d : disks.Ghosts D) (p : match
     handed : (d.tells disk ≡ true → (files : Image) (doubt : Option (List FileText)) → IsCalm (d.seen disk) (d.may_leave disk) files doubt → (given : List ℕ) → IsInput wanted (s.left source) given
         → Serve d files doubt (AnswersRequest (Refusing p patterns ended) wanted given seen) ended.answer disk ended.disk)
         → ((line given : List ℕ) → IsInput wanted (s.left source) given → IfOk ended.answer (λ report. TellsOfJournal wanted given line (report_of report)))
-        → ((given : List ℕ) → IsInput wanted (s.left source) given → IsOk ended.answer → AsksStoreWith wanted given → ⊥) → IfOk ended.answer (λ report. ReportsUntold wanted (report_of report))
-        → IfOk ended.answer (λ report. IsAnswered report.status) → (ended.answer ≡ Err stops.ReadFault → FailsToRead wanted (s.faults source) (s.faults source_now)) → ended.answer ≢ Err stops.DiskFault
+        → ((given : List ℕ) → IsInput wanted (s.left source) given → IsOk ended.answer → AsksStoreWith wanted given → ⊥)
+        → IfOk ended.answer (λ report. ReportsUntold wanted (report_of report))
+        → IfOk ended.answer (λ report. IsAnswered report.status)
+        → (ended.answer ≡ Err stops.ReadFault → FailsToRead wanted (s.faults source) (s.faults source_now))
+        → ended.answer ≢ Err stops.DiskFault
         → CarriesOut s d p wanted source source_now disk patterns ended
     handed served told unasked untold own read no_disk = record {
       served = served;
@@ -132,9 +142,12 @@ module _ {S D P : Type 0} (s : sources.Ghosts S) (d : disks.Ghosts D) (p : match
     }
 
     -- what is told without the store, unless memory is wanting
-    pub told-carried : {E : Type 0} (made : Result code.Report E) (told : Report) → ended.answer ≡ or_memory made → IfOk made (λ report. report_of report ≡ told) → IfOk made (λ report. IsAnswered report.status)
-        → ((given : List ℕ) → IsInput wanted (s.left source) given → AnswersRequest (Refusing p patterns ended) wanted given seen (tells told)) → ((line given : List ℕ) → IsInput wanted (s.left source) given → TellsOfJournal wanted given line told)
-        → ((given : List ℕ) → IsInput wanted (s.left source) given → AsksStoreWith wanted given → ⊥) → ReportsUntold wanted told → CarriesOut s d p wanted source source_now disk patterns ended
+    pub told-carried : {E : Type 0} (made : Result code.Report E) (told : Report) → ended.answer ≡ or_memory made
+        → IfOk made (λ report. report_of report ≡ told) → IfOk made (λ report. IsAnswered report.status)
+        → ((given : List ℕ) → IsInput wanted (s.left source) given → AnswersRequest (Refusing p patterns ended) wanted given seen (tells told))
+        → ((line given : List ℕ) → IsInput wanted (s.left source) given → TellsOfJournal wanted given line told)
+        → ((given : List ℕ) → IsInput wanted (s.left source) given → AsksStoreWith wanted given → ⊥)
+        → ReportsUntold wanted told → CarriesOut s d p wanted source source_now disk patterns ended
     told-carried {E} made told is tells_it own answers of_journal unasked untold =
         handed
         (λ tells_disk files doubt calm given fed. handed_on d disk ended.disk files doubt (AnswersRequest (Refusing p patterns ended) wanted given seen) made ended.answer is disk_is tells_disk calm
@@ -157,7 +170,9 @@ module _ {S D P : Type 0} (s : sources.Ghosts S) (d : disks.Ghosts D) (p : match
         answered Q holds = subst (λ (r : Result code.Report Stop). IfOk r Q) (sym is) (or_stopped Q made holds)
 
     -- nothing is told, for want of memory or since the input failed
-    pub stopped-carried : (stop : Stop) → ended.answer ≡ Err stop → stop ≢ stops.DiskFault → (stop ≡ stops.ReadFault → FailsToRead wanted (s.faults source) (s.faults source_now)) → CarriesOut s d p wanted source source_now disk patterns ended
+    pub stopped-carried : (stop : Stop) → ended.answer ≡ Err stop → stop ≢ stops.DiskFault
+        → (stop ≡ stops.ReadFault → FailsToRead wanted (s.faults source) (s.faults source_now))
+        → CarriesOut s d p wanted source source_now disk patterns ended
     stopped-carried stop is no_disk read =
         handed
         (λ tells_disk files doubt calm given fed. subst (λ (e : D). Serve d files doubt (AnswersRequest (Refusing p patterns ended) wanted given seen) ended.answer disk e) (sym disk_is)

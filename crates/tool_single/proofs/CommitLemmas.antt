@@ -94,11 +94,13 @@ module _ {D P : Type 0} (g : Ghosts D) (files : List MountedFile) (core : Core D
   set_core = record got_core { sets = put 0 (Some (set_alone store parent keys)) no_sets }
 
   abbrev after_get : Goes formats store first_world (Get the_handle parent) (event.Got 0 (event.got store store.start the_handle parent)) got_core
-  after_get = follows formats store first_world (first_core store) (Get the_handle parent) (event.Got 0 (event.got store store.start the_handle parent)) got_core (first_stands formats store here.stands.sound)
+  after_get =
+      follows formats store first_world (first_core store) (Get the_handle parent) (event.Got 0 (event.got store store.start the_handle parent)) got_core (first_stands formats store here.stands.sound)
       (record { good = fetched.good; front_is = refl; keys_are = refl; next_is = refl })
 
   abbrev after_prepare : Goes formats store after_get.after (Prepare the_handle 0 parent keys) event.Ready set_core
-  after_prepare = follows formats store after_get.after got_core (Prepare the_handle 0 parent keys) event.Ready set_core after_get.stands (record { early = early; next_is = refl })
+  after_prepare =
+      follows formats store after_get.after got_core (Prepare the_handle 0 parent keys) event.Ready set_core after_get.stands (record { early = early; next_is = refl })
 
   abbrev pub records : ℕ → model.Record
   records = put the_handle (record_of rec) no_records
@@ -127,39 +129,51 @@ module _ {D P : Type 0} (g : Ghosts D) (files : List MountedFile) (core : Core D
       is_made
 
   pub ready : IsReady formats files core rec set
-  ready = record { procs = λ handle. no_keys; records = records; made = made; world = world; number = 0; belongs = belongs }
+  ready =
+      record { procs = λ handle. no_keys; records = records; made = made; world = world; number = 0; belongs = belongs }
 
   -- what the history decides of the set is what the definitions say of it alone
-  alone : (verdict : Late) → IsLate formats store core.history.commits core.keys (prepared_of set) verdict → IsLate formats store [] store.start (set_alone store parent keys) verdict
+  alone : (verdict : Late) → IsLate formats store core.history.commits core.keys (prepared_of set) verdict
+      → IsLate formats store [] store.start (set_alone store parent keys) verdict
   alone verdict is =
       subst (λ (s : sets.Prepared). IsLate formats store [] store.start s verdict) is_set
       (subst (λ (k : KeyMap). IsLate formats store [] k (prepared_of set) verdict) keys_are (subst (λ (h : List past.Commit). IsLate formats store h core.keys (prepared_of set) verdict) history is))
 
   -- no commit blocks it
-  pub not_blocked : (m by : ℕ) → IsLate formats store core.history.commits core.keys (prepared_of set) (late.Conflict m by) → ⊥
-  not_blocked m by is = never-blocked formats store the_handle parent keys (late.Conflict m by) m by (alone (late.Conflict m by) is) refl
+  pub not_blocked : (m by : ℕ)
+      → IsLate formats store core.history.commits core.keys (prepared_of set) (late.Conflict m by) → ⊥
+  not_blocked m by is =
+      never-blocked formats store the_handle parent keys (late.Conflict m by) m by (alone (late.Conflict m by) is) refl
 
-  pub blocks_not : (risen : Bool) (why : CommitFault) → IsJudged formats store risen core.history.commits core.keys (prepared_of set) (Err why) → (mount : Name) (by front : ℕ) → why ≡ fault.Conflict mount by front → ⊥
+  pub blocks_not : (risen : Bool) (why : CommitFault)
+      → IsJudged formats store risen core.history.commits core.keys (prepared_of set) (Err why)
+      → (mount : Name) (by front : ℕ) → why ≡ fault.Conflict mount by front → ⊥
   blocks_not risen why judged mount by front is =
       let conflict = subst (λ (w : CommitFault). IsJudged formats store risen core.history.commits core.keys (prepared_of set) (Err w)) is judged in
       not_blocked conflict.0 by conflict.3
 
   -- nor is a file too large after it, since it passed
-  pub not_large : (m size : ℕ) → IsLate formats store core.history.commits core.keys (prepared_of set) (late.TooLarge m size) → ⊥
-  not_large m size is = never-large formats store the_handle parent keys early (late.TooLarge m size) m size (alone (late.TooLarge m size) is) refl
+  pub not_large : (m size : ℕ)
+      → IsLate formats store core.history.commits core.keys (prepared_of set) (late.TooLarge m size) → ⊥
+  not_large m size is =
+      never-large formats store the_handle parent keys early (late.TooLarge m size) m size (alone (late.TooLarge m size) is) refl
 
-  pub is_small : (risen : Bool) (why : CommitFault) → IsJudged formats store risen core.history.commits core.keys (prepared_of set) (Err why) → (mount : Name) (bytes front : ℕ) → why ≡ fault.FileTooLarge mount bytes front → ⊥
+  pub is_small : (risen : Bool) (why : CommitFault)
+      → IsJudged formats store risen core.history.commits core.keys (prepared_of set) (Err why)
+      → (mount : Name) (bytes front : ℕ) → why ≡ fault.FileTooLarge mount bytes front → ⊥
   is_small risen why judged mount bytes front is =
       let large = subst (λ (w : CommitFault). IsJudged formats store risen core.history.commits core.keys (prepared_of set) (Err w)) is judged in
       not_large large.0 bytes large.3
 
-  pub joined : (opened : D) (run : Run) → run.names ≡ table_files store → IsStore g opened core.journal run → Belongs formats g store opened core records made world run 0 rec set
+  pub joined : (opened : D) (run : Run) → run.names ≡ table_files store → IsStore g opened core.journal run
+      → Belongs formats g store opened core records made world run 0 rec set
   joined opened run names on_disk = record { here = belongs; on_disk = on_disk; names = names }
 
   module _ (MayRefuse : List ℕ → Type 0) (risen : Bool) (out : List ℕ) (after : Core D P) (new : Record) where
     -- the set was committed with this answer, for each run that the journal stands for
     abbrev ForEachRun : Result Done CommitFault → Type 0
-    ForEachRun result = (opened : D) (run : Run) → run.names ≡ table_files store → IsStore g opened core.journal run → HasAnswered formats g store opened core after records made run 0 rec new set risen result
+    ForEachRun result =
+        (opened : D) (run : Run) → run.names ≡ table_files store → IsStore g opened core.journal run → HasAnswered formats g store opened core after records made run 0 rec new set risen result
 
     abbrev Answered : Answer → Type 0
     Answered = AnswersSet MayRefuse files parent keys out
@@ -190,10 +204,13 @@ module _ {D P : Type 0} (g : Ghosts D) (files : List MountedFile) (core : Core D
     with_some run (text ∷ ts) none = refl
 
     -- where the store is as it was
-    still : (opened : D) (run : Run) → IsStore g opened core.journal run → IsUnwritten core after → IsStore g opened after.journal run
+    still : (opened : D) (run : Run) → IsStore g opened core.journal run → IsUnwritten core after
+        → IsStore g opened after.journal run
     still opened run on_disk kept = subst (λ (j : JournalValue D). IsStore g opened j run) (sym kept.journal) on_disk
 
-    pub committed_serves : (number aside : ℕ) → IsJudged formats store risen core.history.commits core.keys (prepared_of set) (Ok (done.Committed number aside)) → ForEachRun (Ok (done.Committed number aside)) → Serves g files Answered (told out) core after
+    pub committed_serves : (number aside : ℕ)
+        → IsJudged formats store risen core.history.commits core.keys (prepared_of set) (Ok (done.Committed number aside))
+        → ForEachRun (Ok (done.Committed number aside)) → Serves g files Answered (told out) core after
     committed_serves number aside judged has = record {
       answer = answer.stores stored out;
       answers = answers aside judged.1;
@@ -203,12 +220,16 @@ module _ {D P : Type 0} (g : Ghosts D) (files : List MountedFile) (core : Core D
       done = λ there. refl;
     }
       where
-        goes_on : (opened : D) (run : Run) → HasAnswered formats g store opened core after records made run 0 rec new set risen (Ok (done.Committed number aside)) → IsStore g opened after.journal (run_with run stored)
+        goes_on : (opened : D) (run : Run)
+            → HasAnswered formats g store opened core after records made run 0 rec new set risen (Ok (done.Committed number aside))
+            → IsStore g opened after.journal (run_with run stored)
         goes_on opened run has =
             let later_is : has.later ≡ after_commit run (entry_of stored) = subst (λ (t : Told). RunsOn formats store core.keys run (made 0) t has.later) has.is_answer.1 has.committed.runs_on ∙ ap (after_commit run) (entry_is aside judged.1) in
             subst (λ (r : Run). IsStore g opened after.journal r) (later_is ∙ with_some run stored (some aside judged.1)) has.committed.on_disk
 
-    pub same_serves : (front aside : ℕ) → IsJudged formats store risen core.history.commits core.keys (prepared_of set) (Ok (done.Same front aside)) → IsUnwritten core after → Serves g files Answered (told out) core after
+    pub same_serves : (front aside : ℕ)
+        → IsJudged formats store risen core.history.commits core.keys (prepared_of set) (Ok (done.Same front aside))
+        → IsUnwritten core after → Serves g files Answered (told out) core after
     same_serves front aside judged kept = record {
       answer = answer.done out;
       answers = Judged early (late.Same aside) (alone (late.Same aside) judged.1) refl;
@@ -218,11 +239,16 @@ module _ {D P : Type 0} (g : Ghosts D) (files : List MountedFile) (core : Core D
       done = λ there. refl;
     }
 
-    pub done_serves : (d : Done) → IsJudged formats store risen core.history.commits core.keys (prepared_of set) (Ok d) → ForEachRun (Ok d) → (has_written (Ok d) ≡ false → IsUnwritten core after) → Serves g files Answered (told out) core after
+    pub done_serves : (d : Done) → IsJudged formats store risen core.history.commits core.keys (prepared_of set) (Ok d)
+        → ForEachRun (Ok d) → (has_written (Ok d) ≡ false → IsUnwritten core after)
+        → Serves g files Answered (told out) core after
     done_serves (done.Committed number aside) judged has kept = committed_serves number aside judged has
     done_serves (done.Same front aside) judged has kept = same_serves front aside judged (kept refl)
 
-    pub rule_serves : (violation : Violation) (front : ℕ) (report : Report) → ((pattern : List ℕ) → T risen → MayRefuse pattern) → report ≡ warned 5 (invalid violation) → IsJudged formats store risen core.history.commits core.keys (prepared_of set) (Err (fault.Invalid violation front)) → IsUnwritten core after → Serves g files Answered report core after
+    pub rule_serves : (violation : Violation) (front : ℕ) (report : Report)
+        → ((pattern : List ℕ) → T risen → MayRefuse pattern) → report ≡ warned 5 (invalid violation)
+        → IsJudged formats store risen core.history.commits core.keys (prepared_of set) (Err (fault.Invalid violation front))
+        → IsUnwritten core after → Serves g files Answered report core after
     rule_serves violation front report may told_is judged kept = record {
       answer = answer.refused 5 (invalid violation);
       answers = Judged early (late.Invalid violation risen) (alone (late.Invalid violation risen) judged.1) (may violation.given, refl);
@@ -232,7 +258,9 @@ module _ {D P : Type 0} (g : Ghosts D) (files : List MountedFile) (core : Core D
       done = λ some. absurd (some refl);
     }
 
-    pub full_serves : (weight front : ℕ) (report : Report) → report ≡ warned 5 (database_full weight) → IsJudged formats store risen core.history.commits core.keys (prepared_of set) (Err (fault.DatabaseFull weight front)) → IsUnwritten core after → Serves g files Answered report core after
+    pub full_serves : (weight front : ℕ) (report : Report) → report ≡ warned 5 (database_full weight)
+        → IsJudged formats store risen core.history.commits core.keys (prepared_of set) (Err (fault.DatabaseFull weight front))
+        → IsUnwritten core after → Serves g files Answered report core after
     full_serves weight front report told_is judged kept = record {
       answer = answer.refused 5 (database_full weight);
       answers = Judged early (late.DatabaseFull weight) (alone (late.DatabaseFull weight) judged.1) refl;
@@ -242,7 +270,9 @@ module _ {D P : Type 0} (g : Ghosts D) (files : List MountedFile) (core : Core D
       done = λ some. absurd (some refl);
     }
 
-    pub history_serves : (weight front : ℕ) (report : Report) → report ≡ warned 5 (history_full weight) → IsJudged formats store risen core.history.commits core.keys (prepared_of set) (Err (fault.HistoryFull weight front)) → IsUnwritten core after → Serves g files Answered report core after
+    pub history_serves : (weight front : ℕ) (report : Report) → report ≡ warned 5 (history_full weight)
+        → IsJudged formats store risen core.history.commits core.keys (prepared_of set) (Err (fault.HistoryFull weight front))
+        → IsUnwritten core after → Serves g files Answered report core after
     history_serves weight front report told_is judged kept = record {
       answer = answer.refused 5 (history_full weight);
       answers = Judged early (late.HistoryFull weight) (alone (late.HistoryFull weight) judged.1) refl;
@@ -252,7 +282,9 @@ module _ {D P : Type 0} (g : Ghosts D) (files : List MountedFile) (core : Core D
       done = λ some. absurd (some refl);
     }
 
-    pub fault_fails : (front : ℕ) → after.wrote ≡ true → IsJudged formats store risen core.history.commits core.keys (prepared_of set) (Err (fault.DiskFault front)) → ForEachRun (Err (fault.DiskFault front)) → FailsToStore g files Answered core after
+    pub fault_fails : (front : ℕ) → after.wrote ≡ true
+        → IsJudged formats store risen core.history.commits core.keys (prepared_of set) (Err (fault.DiskFault front))
+        → ForEachRun (Err (fault.DiskFault front)) → FailsToStore g files Answered core after
     fault_fails front wrote judged has = record {
       answer = answer.stores stored out;
       answers = answers judged.0 judged.2;
@@ -261,7 +293,9 @@ module _ {D P : Type 0} (g : Ghosts D) (files : List MountedFile) (core : Core D
       wrote = wrote;
     }
       where
-        begins : (opened : D) (run : Run) → HasAnswered formats g store opened core after records made run 0 rec new set risen (Err (fault.DiskFault front)) → BeginsEntry g opened run (entry_of stored) after.journal
+        begins : (opened : D) (run : Run)
+            → HasAnswered formats g store opened core after records made run 0 rec new set risen (Err (fault.DiskFault front))
+            → BeginsEntry g opened run (entry_of stored) after.journal
         begins opened run has =
             let later = subst (λ (t : Told). RunsOn formats store core.keys run (made 0) t has.later) has.is_answer has.committed.runs_on in
             let same = entry_is judged.0 judged.2 in
@@ -272,26 +306,39 @@ module _ {D P : Type 0} (g : Ghosts D) (files : List MountedFile) (core : Core D
             }
 
     -- what a set comes to that isn't committed
-    pub refused_serving : (why : CommitFault) (result : Result code.Report Stop) → ((pattern : List ℕ) → T risen → MayRefuse pattern) → IsRefusalOf why result → IsJudged formats store risen core.history.commits core.keys (prepared_of set) (Err why) → ForEachRun (Err why)
-        → (has_written (Err why) ≡ false → IsUnwritten core after) → (has_written (Err why) ≡ true → after.wrote ≡ true) → Serving g files Answered result core after
+    pub refused_serving : (why : CommitFault) (result : Result code.Report Stop)
+        → ((pattern : List ℕ) → T risen → MayRefuse pattern) → IsRefusalOf why result
+        → IsJudged formats store risen core.history.commits core.keys (prepared_of set) (Err why) → ForEachRun (Err why)
+        → (has_written (Err why) ≡ false → IsUnwritten core after) → (has_written (Err why) ≡ true → after.wrote ≡ true)
+        → Serving g files Answered result core after
     refused_serving (fault.Conflict mount by front) result may refusal judged has kept wrote = absurd refusal
     refused_serving (fault.FileTooLarge mount bytes front) result may refusal judged has kept wrote = absurd refusal
-    refused_serving (fault.Invalid violation front) (Ok report) may refusal judged has kept wrote = rule_serves violation front (report_of report) may refusal judged (kept refl)
-    refused_serving (fault.Invalid violation front) (Err stop) may refusal judged has kept wrote = subst (λ (s : Stop). Serving g files Answered (Err s) core after) (sym refusal) (kept refl)
-    refused_serving (fault.DatabaseFull weight front) (Ok report) may refusal judged has kept wrote = full_serves weight front (report_of report) refusal judged (kept refl)
-    refused_serving (fault.DatabaseFull weight front) (Err stop) may refusal judged has kept wrote = subst (λ (s : Stop). Serving g files Answered (Err s) core after) (sym refusal) (kept refl)
-    refused_serving (fault.HistoryFull weight front) (Ok report) may refusal judged has kept wrote = history_serves weight front (report_of report) refusal judged (kept refl)
-    refused_serving (fault.HistoryFull weight front) (Err stop) may refusal judged has kept wrote = subst (λ (s : Stop). Serving g files Answered (Err s) core after) (sym refusal) (kept refl)
-    refused_serving (fault.DiskFault front) result may refusal judged has kept wrote = subst (λ (r : Result code.Report Stop). Serving g files Answered r core after) (sym refusal) (fault_fails front (wrote refl) judged has)
-    refused_serving fault.Memory result may refusal judged has kept wrote = subst (λ (r : Result code.Report Stop). Serving g files Answered r core after) (sym refusal) (kept refl)
+    refused_serving (fault.Invalid violation front) (Ok report) may refusal judged has kept wrote =
+        rule_serves violation front (report_of report) may refusal judged (kept refl)
+    refused_serving (fault.Invalid violation front) (Err stop) may refusal judged has kept wrote =
+        subst (λ (s : Stop). Serving g files Answered (Err s) core after) (sym refusal) (kept refl)
+    refused_serving (fault.DatabaseFull weight front) (Ok report) may refusal judged has kept wrote =
+        full_serves weight front (report_of report) refusal judged (kept refl)
+    refused_serving (fault.DatabaseFull weight front) (Err stop) may refusal judged has kept wrote =
+        subst (λ (s : Stop). Serving g files Answered (Err s) core after) (sym refusal) (kept refl)
+    refused_serving (fault.HistoryFull weight front) (Ok report) may refusal judged has kept wrote =
+        history_serves weight front (report_of report) refusal judged (kept refl)
+    refused_serving (fault.HistoryFull weight front) (Err stop) may refusal judged has kept wrote =
+        subst (λ (s : Stop). Serving g files Answered (Err s) core after) (sym refusal) (kept refl)
+    refused_serving (fault.DiskFault front) result may refusal judged has kept wrote =
+        subst (λ (r : Result code.Report Stop). Serving g files Answered r core after) (sym refusal) (fault_fails front (wrote refl) judged has)
+    refused_serving fault.Memory result may refusal judged has kept wrote =
+        subst (λ (r : Result code.Report Stop). Serving g files Answered r core after) (sym refusal) (kept refl)
 
-stop_apart : (stop : Stop) → stop ≡ stops.Memory → ◌≡◌ {A = Result code.Report Stop} (Err stop) (Err stops.DiskFault) → ⊥
+stop_apart : (stop : Stop) → stop ≡ stops.Memory → ◌≡◌ {A = Result code.Report Stop} (Err stop) (Err stops.DiskFault)
+    → ⊥
 stop_apart stops.Memory memory is = absurd cc
 stop_apart stops.DiskFault memory is = absurd cc
 stop_apart stops.ReadFault memory is = absurd cc
 
 -- a fault that ends the run so is one of the disk
-pub refused_disk : (why : CommitFault) (result : Result code.Report Stop) → IsRefusalOf why result → result ≡ Err stops.DiskFault → (front : ℕ) × (why ≡ fault.DiskFault front)
+pub refused_disk : (why : CommitFault) (result : Result code.Report Stop) → IsRefusalOf why result
+    → result ≡ Err stops.DiskFault → (front : ℕ) × (why ≡ fault.DiskFault front)
 refused_disk (fault.Conflict mount by front) result refusal is = absurd refusal
 refused_disk (fault.FileTooLarge mount bytes front) result refusal is = absurd refusal
 refused_disk (fault.Invalid violation front) (Ok report) refusal is = absurd cc
@@ -301,4 +348,5 @@ refused_disk (fault.DatabaseFull weight front) (Err stop) refusal is = absurd (s
 refused_disk (fault.HistoryFull weight front) (Ok report) refusal is = absurd cc
 refused_disk (fault.HistoryFull weight front) (Err stop) refusal is = absurd (stop_apart stop refusal is)
 refused_disk (fault.DiskFault front) result refusal is = (front, refl)
-refused_disk fault.Memory result refusal is = absurd (let both : ◌≡◌ {A = Result code.Report Stop} (Err stops.Memory) (Err stops.DiskFault) = sym refusal ∙ is in cc)
+refused_disk fault.Memory result refusal is =
+    absurd (let both : ◌≡◌ {A = Result code.Report Stop} (Err stops.Memory) (Err stops.DiskFault) = sym refusal ∙ is in cc)

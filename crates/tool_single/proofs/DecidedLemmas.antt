@@ -28,13 +28,15 @@ opens_there c may (inl short) = absurd (let there = may.there in omega arith)
 opens_there c may (inr (inl closed)) = absurd (may.open_too closed)
 opens_there c may (inr (inr one)) = record { there = may.there; gate_is = one }
 
-follows_so : (b : Bool) (entries : List (List FileText)) (X Y : Type 0) → (b ≡ true → X → Y) → Follows b entries X → Follows b entries Y
+follows_so : (b : Bool) (entries : List (List FileText)) (X Y : Type 0) → (b ≡ true → X → Y) → Follows b entries X
+    → Follows b entries Y
 follows_so true entries X Y on follows = on refl follows
 follows_so false [] X Y on follows = tt
 follows_so false (entry ∷ entries) X Y on follows = absurd follows
 
 -- the bytes behind an entry stand at the place behind it
-behind_entry : (list : List ℕ) (place : ℕ) (c : List ℕ) → c ≡ drop place list → rest_of (drop 1 c) ≡ drop (place + head_size + size_of (drop 1 c)) list
+behind_entry : (list : List ℕ) (place : ℕ) (c : List ℕ) → c ≡ drop place list
+    → rest_of (drop 1 c) ≡ drop (place + head_size + size_of (drop 1 c)) list
 behind_entry list place c there =
     let size = size_of (drop 1 c) in
     ap (drop size) (drop_drop 4 1 c)
@@ -49,9 +51,11 @@ behind_entry list place c there =
 module _ (rule : Rule) where
   -- the gates that some bytes of a list lead to are decided
   abbrev AreClear : List ℕ → ℕ → ℕ → List ℕ → Type 0
-  AreClear list number place c = (at : ℕ) (entries : List (List FileText)) → Leads rule (λ n p rest. p ≡ at) number place c entries → IsClear head_size (drop at list)
+  AreClear list number place c =
+      (at : ℕ) (entries : List (List FileText)) → Leads rule (λ n p rest. p ≡ at) number place c entries → IsClear head_size (drop at list)
 
-  decided_from : (list : List ℕ) (number place : ℕ) (c : List ℕ) (entries : List (List FileText)) → c ≡ drop place list → AreClear list number place c → ReadsFrom rule number place c entries
+  decided_from : (list : List ℕ) (number place : ℕ) (c : List ℕ) (entries : List (List FileText)) → c ≡ drop place list
+      → AreClear list number place c → ReadsFrom rule number place c entries
       → OpensFrom rule number place c entries
   decided_from list number place c [] there clear reads = reads
   decided_from list number place c (entry ∷ entries) there clear reads =
@@ -66,11 +70,13 @@ module _ (rule : Rule) where
 
 -- ---- the journals
 
-former_decided : (image : Image) (entries : List (List FileText)) → IsDecided image → ReadsFormer (image journal_name) entries → OpensFormer (image journal_name) entries
+former_decided : (image : Image) (entries : List (List FileText)) → IsDecided image
+    → ReadsFormer (image journal_name) entries → OpensFormer (image journal_name) entries
 former_decided image entries decided reads =
     decided_from plain (image journal_name) 0 0 (image journal_name) entries refl (λ at more leads. decided.former at (more, leads)) reads
 
-journal_decided : (image : Image) (entries : List (List FileText)) → IsDecided image → ReadsJournal (image journal2_name) entries → OpensJournal (image journal2_name) entries
+journal_decided : (image : Image) (entries : List (List FileText)) → IsDecided image
+    → ReadsJournal (image journal2_name) entries → OpensJournal (image journal2_name) entries
 journal_decided image entries decided (inl headless) = inl headless
 journal_decided image entries decided (inr (headed, behind)) = by decided.head
   where
@@ -80,7 +86,8 @@ journal_decided image entries decided (inr (headed, behind)) = by decided.head
     list : List ℕ
     list = drop (front_size behind.names) c
 
-    clear : (at : ℕ) (more : List (List FileText)) → Leads (listed behind.names) (λ n p rest. p ≡ at) 0 0 list more → IsClear head_size (drop at list)
+    clear : (at : ℕ) (more : List (List FileText)) → Leads (listed behind.names) (λ n p rest. p ≡ at) 0 0 list more
+        → IsClear head_size (drop at list)
     clear at more leads =
         subst (IsClear head_size) (sym (drop_drop at (front_size behind.names) c))
         (decided.list (front_size behind.names + at) (record { headed = headed; names = behind.names; head = behind.head; place = at; gates = (more, leads); is = refl }))
@@ -99,7 +106,8 @@ journal_decided image entries decided (inr (headed, behind)) = by decided.head
         )
 
 -- all outcomes of an image whose gates are decided are the files that its opening leaves
-pub one_outcome : (image outcome : Image) → IsDecided image → HasOutcome image outcome → SameFiles outcome (opened_files image)
+pub one_outcome : (image outcome : Image) → IsDecided image → HasOutcome image outcome
+    → SameFiles outcome (opened_files image)
 one_outcome image outcome decided has file own =
     let reads = has.1 in
     let former = former_is (image journal_name) reads.before (former_decided image reads.before decided reads.former) in

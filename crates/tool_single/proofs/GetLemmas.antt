@@ -48,8 +48,10 @@ module _ (files : List MountedFile) (parent : Name) where
   pub alone-good : first_bad (store_alone files) parent ≡ None → got_alone files parent ≡ Ok gets
   alone-good good = ap (λ (o : Option ℕ). unless_bad (option_and_then (fault_at files) o) gets) good
 
-  pub alone-bad : (m : ℕ) (why : GetFault) → first_bad (store_alone files) parent ≡ Some m → fault_at files m ≡ Some why → got_alone files parent ≡ Err why
-  alone-bad m why bad is = ap (λ (o : Option GetFault). unless_bad o gets) (ap (option_and_then (fault_at files)) bad ∙ is)
+  pub alone-bad : (m : ℕ) (why : GetFault) → first_bad (store_alone files) parent ≡ Some m → fault_at files m ≡ Some why
+      → got_alone files parent ≡ Err why
+  alone-bad m why bad is =
+      ap (λ (o : Option GetFault). unless_bad o gets) (ap (option_and_then (fault_at files)) bad ∙ is)
 
   -- they are the visible keys in reach, since the handle has none in `proc`
   alone-reached : gets ≡ in_reach (points_of (store_alone files)) parent (store_alone files).start
@@ -63,7 +65,9 @@ module _ (files : List MountedFile) (parent : Name) where
       by false = refl
 
   -- at or below the parent they are within the limits of a file
-  pub alone-limited : (keys found : KeyMap) → HaveShortTexts files → sum_by (λ file. visible_weight file.state) files ≤ heaviest_map → got_alone files parent ≡ Ok keys → found ≡ relative parent keys → AreSound parent found → IsLimited found
+  pub alone-limited : (keys found : KeyMap) → HaveShortTexts files
+      → sum_by (λ file. visible_weight file.state) files ≤ heaviest_map → got_alone files parent ≡ Ok keys
+      → found ≡ relative parent keys → AreSound parent found → IsLimited found
   alone-limited keys found short light got is sound =
       let visible = (store_alone files).start in
       let reached = is_reached (points_of (store_alone files)) parent in
@@ -93,7 +97,8 @@ module _ {D P : Type 0} (files : List MountedFile) (core : Core D P) (parent : N
   keys_are = here.stands.keys
 
   abbrev MadeAs : event.Answer → Type 0
-  MadeAs answer = cores.Made formats (store_alone files) (core_with core no_records no_sets) (event.Get (handle_of old) parent) answer (core_with core (put (handle_of old) (record_of new) no_records) no_sets)
+  MadeAs answer =
+      cores.Made formats (store_alone files) (core_with core no_records no_sets) (event.Get (handle_of old) parent) answer (core_with core (put (handle_of old) (record_of new) no_records) no_sets)
 
   pub fetched : (got_keys : Got) → HasGotAlone (Ok got_keys) → HasFetched files parent new
   fetched got_keys has =
@@ -115,9 +120,12 @@ module _ {D P : Type 0} (files : List MountedFile) (core : Core D P) (parent : N
       alone-good files parent made.good
       ∙ ap Ok (sym (made.keys_are ∙ ap₂ (λ (k : KeyMap) (h : ℕ). event.got (store_alone files) k h parent) keys_are is_new.handle))
 
-  pub fault_shown : (why : GetFault) → HasGotAlone (Err why) → UnlessMemory fault.Memory (got_alone files parent ≡ Err why) why
+  pub fault_shown : (why : GetFault) → HasGotAlone (Err why)
+      → UnlessMemory fault.Memory (got_alone files parent ≡ Err why) why
   fault_shown why has = λ no_memory. by has.is_answer no_memory
     where
-      by : ((why ≡ fault.Memory) × (has.answer ≡ event.Memory)) ⊎ ((m : ℕ) × (fault_at files m ≡ Some why) × (has.answer ≡ event.Bad m)) → (why ≡ fault.Memory → ⊥) → got_alone files parent ≡ Err why
+      by : ((why ≡ fault.Memory) × (has.answer ≡ event.Memory))
+          ⊎ ((m : ℕ) × (fault_at files m ≡ Some why) × (has.answer ≡ event.Bad m))
+          → (why ≡ fault.Memory → ⊥) → got_alone files parent ≡ Err why
       by (inl memory) no_memory = absurd (no_memory memory.0)
       by (inr bad) no_memory = alone-bad files parent bad.0 why (subst MadeAs bad.2 has.made).0 bad.1

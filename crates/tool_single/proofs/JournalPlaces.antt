@@ -36,13 +36,15 @@ header-bytes : (c : List ℕ) → All IsByte c → All IsByte (header_of c)
 header-bytes c bytes = All-take IsByte (header_size c) (drop head_start c) (All-drop IsByte head_start c bytes)
 
 -- a header that isn't whole
-head_told : (c : List ℕ) (at : ℕ) → All IsByte c → header_or_place (header_size c) (header_of c) ≡ Err at → IsHeadBadAt c at
+head_told : (c : List ℕ) (at : ℕ) → All IsByte c → header_or_place (header_size c) (header_of c) ≡ Err at
+    → IsHeadBadAt c at
 head_told c at bytes bad = elim (cases_lt longest_header (header_size c)) as (λ x. IsHeadBadAt c at) [
   | inl long ↦ TooLong long (err_is at 2 (sym bad ∙ header_long (header_size c) (header_of c) long))
   | inr short ↦ by short (read_header (header_of c)) refl
 ]
   where
-    by : header_size c ≤ longest_header → (r : Result (List (List ℕ)) ℕ) → read_header (header_of c) ≡ r → IsHeadBadAt c at
+    by : header_size c ≤ longest_header → (r : Result (List (List ℕ)) ℕ) → read_header (header_of c) ≡ r
+        → IsHeadBadAt c at
     by short (Err there) reads =
         WrongHeader short there (header_told (header_of c) there reads) (err_is at (head_start + there) (sym bad ∙ header_bad (header_size c) (header_of c) there short reads))
     by short (Ok names) reads = elim (cases_eq (length (header_of c)) (header_size c)) as (λ x. IsHeadBadAt c at) [
@@ -54,23 +56,28 @@ head_told c at bytes bad = elim (cases_lt longest_header (header_size c)) as (λ
 
 head_alone : (c : List ℕ) (at : ℕ) → IsHeadBadAt c at → header_or_place (header_size c) (header_of c) ≡ Err at
 head_alone c at (TooLong long is) = header_long (header_size c) (header_of c) long ∙ ap Err (sym is)
-head_alone c at (WrongHeader short there wrong is) = header_bad (header_size c) (header_of c) there short (header_alone (header_of c) there wrong) ∙ ap Err (sym is)
+head_alone c at (WrongHeader short there wrong is) =
+    header_bad (header_size c) (header_of c) there short (header_alone (header_of c) there wrong) ∙ ap Err (sym is)
 head_alone c at (HeaderCut short names good spelling cut is) =
-    header_cut (header_size c) (header_of c) names short (subst (λ (header : List ℕ). read_header header ≡ Ok names) spelling (header_again names good)) cut ∙ ap Err (sym is)
+    header_cut (header_size c) (header_of c) names short (subst (λ (header : List ℕ). read_header header ≡ Ok names) spelling (header_again names good)) cut
+    ∙ ap Err (sym is)
 
 -- and one that is
 record IsWholeHeader (c : List ℕ) (names : List (List ℕ)) : Type 0 where
   pub reads : read_header (header_of c) ≡ Ok names
   pub sized : length (header_of c) ≡ header_size c
 
-whole_header_of : (c : List ℕ) (names : List (List ℕ)) → header_or_place (header_size c) (header_of c) ≡ Ok names → IsWholeHeader c names
+whole_header_of : (c : List ℕ) (names : List (List ℕ)) → header_or_place (header_size c) (header_of c) ≡ Ok names
+    → IsWholeHeader c names
 whole_header_of c names good = elim (cases_lt longest_header (header_size c)) as (λ x. IsWholeHeader c names) [
   | inl long ↦ absurd (let bad = sym (header_long (header_size c) (header_of c) long) ∙ good in cc)
   | inr short ↦ by short (read_header (header_of c)) refl
 ]
   where
-    by : header_size c ≤ longest_header → (r : Result (List (List ℕ)) ℕ) → read_header (header_of c) ≡ r → IsWholeHeader c names
-    by short (Err there) reads = absurd (let bad = sym (header_bad (header_size c) (header_of c) there short reads) ∙ good in cc)
+    by : header_size c ≤ longest_header → (r : Result (List (List ℕ)) ℕ) → read_header (header_of c) ≡ r
+        → IsWholeHeader c names
+    by short (Err there) reads =
+        absurd (let bad = sym (header_bad (header_size c) (header_of c) there short reads) ∙ good in cc)
     by short (Ok others) reads = elim (cases_eq (length (header_of c)) (header_size c)) as (λ x. IsWholeHeader c names) [
       | inl whole ↦
           let both = sym (header_whole (header_size c) (header_of c) others short reads whole) ∙ good in
@@ -81,12 +88,14 @@ whole_header_of c names good = elim (cases_lt longest_header (header_size c)) as
 
 -- ---- a journal with a whole head begins with it
 
-length_there : (tail : List ℕ) → All IsByte tail → 4 ≤ length tail → tail ≡ length_bytes (number_of (take 4 tail)) ++ drop 4 tail
+length_there : (tail : List ℕ) → All IsByte tail → 4 ≤ length tail
+    → tail ≡ length_bytes (number_of (take 4 tail)) ++ drop 4 tail
 length_there tail bytes long =
     number_takes tail (number_of (take 4 tail), drop 4 tail) (IsBytes-from_All tail bytes)
     (ap (λ (b : Bool). checked b tail (number_of (take 4 tail), drop 4 tail)) (le-leb 4 (length tail) long))
 
-begins : (c : List ℕ) (names : List (List ℕ)) → All IsByte c → IsHeaded c → version_of c ≡ version → IsWholeHeader c names → (list : List ℕ) × (c ≡ front names ++ list)
+begins : (c : List ℕ) (names : List (List ℕ)) → All IsByte c → IsHeaded c → version_of c ≡ version
+    → IsWholeHeader c names → (list : List ℕ) × (c ≡ front names ++ list)
 begins [] names bytes headed same whole = absurd (let there = headed.there in omega arith)
 begins (a ∷ []) names bytes headed same whole = absurd (let there = headed.there in omega arith)
 begins (a ∷ b ∷ tail) names bytes headed same whole =
@@ -130,7 +139,8 @@ headless_in c fault none is = let good = sym (ap (λ h. behind_head h c) none) �
 other_in : (c : List ℕ) → IsHeaded c → version_of c ≢ version → journal_in c ≡ Err (UnknownVersion (version_of c))
 other_in c headed other = ap (λ h. behind_head h c) (head_known c headed ∙ known_other c other)
 
-known_in : (c : List ℕ) (r : Result (List (List ℕ)) ℕ) → IsHeaded c → version_of c ≡ version → header_or_place (header_size c) (header_of c) ≡ r → journal_in c ≡ behind_head (with_some r) c
+known_in : (c : List ℕ) (r : Result (List (List ℕ)) ℕ) → IsHeaded c → version_of c ≡ version
+    → header_or_place (header_size c) (header_of c) ≡ r → journal_in c ≡ behind_head (with_some r) c
 known_in c r headed same is = ap (λ h. behind_head h c) (head_known c headed ∙ known_same c same ∙ ap with_some is)
 
 journal_told : (c : List ℕ) (at : ℕ) → All IsByte c → journal_in c ≡ Err (BadJournal at) → IsJournalBadAt c at
@@ -142,7 +152,8 @@ journal_told c at bytes bad = elim (head_cases c) as (λ x. IsJournalBadAt c at)
   ]
 ]
   where
-    by : IsHeaded c → version_of c ≡ version → (r : Result (List (List ℕ)) ℕ) → header_or_place (header_size c) (header_of c) ≡ r → IsJournalBadAt c at
+    by : IsHeaded c → version_of c ≡ version → (r : Result (List (List ℕ)) ℕ)
+        → header_or_place (header_size c) (header_of c) ≡ r → IsJournalBadAt c at
     by headed same (Err there) is =
         let both = fault_is (BadJournal there) (BadJournal at) (sym (known_in c (Err there) headed same is) ∙ bad) in
         let place : there ≡ at = cc in
@@ -184,9 +195,12 @@ version_told c found bad = elim (head_cases c) as (λ x. OtherVersion c found) [
   ]
 ]
   where
-    by : IsHeaded c → version_of c ≡ version → (r : Result (List (List ℕ)) ℕ) → header_or_place (header_size c) (header_of c) ≡ r → ⊥
-    by headed same (Err there) is = let both = fault_is (BadJournal there) (UnknownVersion found) (sym (known_in c (Err there) headed same is) ∙ bad) in cc
-    by headed same (Ok names) is = list_known (list_in (listed names) (drop (front_size names) c)) found (sym (known_in c (Ok names) headed same is) ∙ bad)
+    by : IsHeaded c → version_of c ≡ version → (r : Result (List (List ℕ)) ℕ)
+        → header_or_place (header_size c) (header_of c) ≡ r → ⊥
+    by headed same (Err there) is =
+        let both = fault_is (BadJournal there) (UnknownVersion found) (sym (known_in c (Err there) headed same is) ∙ bad) in cc
+    by headed same (Ok names) is =
+        list_known (list_in (listed names) (drop (front_size names) c)) found (sym (known_in c (Ok names) headed same is) ∙ bad)
 
 -- ---- both journals
 
@@ -194,7 +208,8 @@ abbrev Found : Type 0
 Found = Result Entries JournalFault
 
 -- `journal` is told by its place alone
-former_at : (r : Result Entries ℕ) (fault : JournalFault) → with_fault r ≡ Err fault → (at : ℕ) × (r ≡ Err at) × (fault ≡ BadJournal at)
+former_at : (r : Result Entries ℕ) (fault : JournalFault) → with_fault r ≡ Err fault
+    → (at : ℕ) × (r ≡ Err at) × (fault ≡ BadJournal at)
 former_at (Ok entries) fault is = absurd cc
 former_at (Err there) fault is = (there, refl, cc)
 
@@ -211,14 +226,19 @@ versioned (UnknownVersion other) found is = cc
 versioned Memory found is = absurd (none-some found is)
 
 module _ (seen : Image) (bytes : All (λ b. b < 256) (seen journal_name)) where
-  found_by : (former journal : Found) → former_in (seen journal_name) ≡ former → journal_in (seen journal2_name) ≡ journal → found_in seen ≡ with_former former journal
-  found_by former journal is also = ap (λ (f : Found). with_former f (journal_in (seen journal2_name))) is ∙ ap (λ (j : Found). with_former former j) also
+  found_by : (former journal : Found) → former_in (seen journal_name) ≡ former
+      → journal_in (seen journal2_name) ≡ journal → found_in seen ≡ with_former former journal
+  found_by former journal is also =
+      ap (λ (f : Found). with_former f (journal_in (seen journal2_name))) is
+      ∙ ap (λ (j : Found). with_former former j) also
 
   -- a former journal that is read isn't bad, and one that isn't is
   former_whole : (former : Entries) → former_in (seen journal_name) ≡ Ok former → (at : ℕ) → ¬ IsFormerBadAt seen at
-  former_whole former is at bad = let both = sym (ap with_fault (list_alone None (seen journal_name) at bytes bad)) ∙ is in cc
+  former_whole former is at bad =
+      let both = sym (ap with_fault (list_alone None (seen journal_name) at bytes bad)) ∙ is in cc
 
-  former_bad : (fault : JournalFault) → former_in (seen journal_name) ≡ Err fault → (at : ℕ) × (IsFormerBadAt seen at × (fault ≡ BadJournal at))
+  former_bad : (fault : JournalFault) → former_in (seen journal_name) ≡ Err fault
+      → (at : ℕ) × (IsFormerBadAt seen at × (fault ≡ BadJournal at))
   former_bad fault is =
       let stop = former_at (list_in plain (seen journal_name)) fault is in
       (stop.0, (list_told None (seen journal_name) stop.0 bytes stop.1, stop.2))
@@ -226,21 +246,24 @@ module _ (seen : Image) (bytes : All (λ b. b < 256) (seen journal_name)) where
   former_reads : ((at : ℕ) → ¬ IsFormerBadAt seen at) → (former : Entries) × (former_in (seen journal_name) ≡ Ok former)
   former_reads none = by (former_in (seen journal_name)) refl
     where
-      by : (r : Found) → former_in (seen journal_name) ≡ r → (former : Entries) × (former_in (seen journal_name) ≡ Ok former)
+      by : (r : Found) → former_in (seen journal_name) ≡ r
+          → (former : Entries) × (former_in (seen journal_name) ≡ Ok former)
       by (Ok former) is = (former, is)
       by (Err fault) is = let bad = former_bad fault is in absurd (none bad.0 bad.1.0)
 
   pub broken-at : (at : ℕ) → All (λ b. b < 256) (seen journal2_name) → bad_place seen ≡ Some at → IsBadAt seen at
   broken-at at bytes2 told = by (former_in (seen journal_name)) refl (journal_in (seen journal2_name)) refl
     where
-      by : (former : Found) → former_in (seen journal_name) ≡ former → (journal : Found) → journal_in (seen journal2_name) ≡ journal → IsBadAt seen at
+      by : (former : Found) → former_in (seen journal_name) ≡ former → (journal : Found)
+          → journal_in (seen journal2_name) ≡ journal → IsBadAt seen at
       by (Err fault) is journal also =
           let bad = former_bad fault is in
           let fault_is = placed_at fault at (sym (ap (told_by place_of) (found_by (Err fault) journal is also)) ∙ told) in
           let both = sym bad.1.1 ∙ fault_is in
           let place : bad.0 ≡ at = cc in
           OfFormer (subst (IsFormerBadAt seen) place bad.1.0)
-      by (Ok former) is (Ok entries) also = absurd (none-some at (sym (ap (told_by place_of) (found_by (Ok former) (Ok entries) is also)) ∙ told))
+      by (Ok former) is (Ok entries) also =
+          absurd (none-some at (sym (ap (told_by place_of) (found_by (Ok former) (Ok entries) is also)) ∙ told))
       by (Ok former) is (Err fault) also =
           let fault_is = placed_at fault at (sym (ap (told_by place_of) (found_by (Ok former) (Err fault) is also)) ∙ told) in
           OfJournal (former_whole former is) (journal_told (seen journal2_name) at bytes2 (also ∙ ap Err fault_is))
@@ -255,22 +278,30 @@ module _ (seen : Image) (bytes : All (λ b. b < 256) (seen journal_name)) where
   pub version-at : (found : ℕ) → unknown_version seen ≡ Some found → HasOtherVersion seen found
   version-at found told = by (former_in (seen journal_name)) refl (journal_in (seen journal2_name)) refl
     where
-      by : (former : Found) → former_in (seen journal_name) ≡ former → (journal : Found) → journal_in (seen journal2_name) ≡ journal → HasOtherVersion seen found
+      by : (former : Found) → former_in (seen journal_name) ≡ former → (journal : Found)
+          → journal_in (seen journal2_name) ≡ journal → HasOtherVersion seen found
       by (Err fault) is journal also =
           let bad = former_bad fault is in
           let fault_is = versioned fault found (sym (ap (told_by version_in) (found_by (Err fault) journal is also)) ∙ told) in
           absurd (let both = sym bad.1.1 ∙ fault_is in cc)
-      by (Ok former) is (Ok entries) also = absurd (none-some found (sym (ap (told_by version_in) (found_by (Ok former) (Ok entries) is also)) ∙ told))
+      by (Ok former) is (Ok entries) also =
+          absurd (none-some found (sym (ap (told_by version_in) (found_by (Ok former) (Ok entries) is also)) ∙ told))
       by (Ok former) is (Err fault) also =
           let fault_is = versioned fault found (sym (ap (told_by version_in) (found_by (Ok former) (Err fault) is also)) ∙ told) in
           let other = version_told (seen journal2_name) found (also ∙ ap Err fault_is) in
-          record { former = former_whole former is; headed = other.headed; version_is = other.version_is; other = other.other }
+          record {
+            former = former_whole former is;
+            headed = other.headed;
+            version_is = other.version_is;
+            other = other.other;
+          }
 
   pub at-version : (found : ℕ) → HasOtherVersion seen found → unknown_version seen ≡ Some found
   at-version found has =
       let former = former_reads has.former in
       let other = other_in (seen journal2_name) has.headed (λ same. has.other (sym has.version_is ∙ same)) in
-      ap (told_by version_in) (found_by (Ok former.0) (Err (UnknownVersion (version_of (seen journal2_name)))) former.1 other) ∙ ap Some has.version_is
+      ap (told_by version_in) (found_by (Ok former.0) (Err (UnknownVersion (version_of (seen journal2_name)))) former.1 other)
+      ∙ ap Some has.version_is
 
 -- ---- nothing else refuses them
 
@@ -289,14 +320,18 @@ journal_refuses c fault bad = elim (head_cases c) as (λ x. IsOfJournal fault) [
   ]
 ]
   where
-    by : IsHeaded c → version_of c ≡ version → (r : Result (List (List ℕ)) ℕ) → header_or_place (header_size c) (header_of c) ≡ r → IsOfJournal fault
-    by headed same (Err there) is = inl (there, sym (fault_is (BadJournal there) fault (sym (known_in c (Err there) headed same is) ∙ bad)))
-    by headed same (Ok names) is = list_refuses (list_in (listed names) (drop (front_size names) c)) fault (sym (known_in c (Ok names) headed same is) ∙ bad)
+    by : IsHeaded c → version_of c ≡ version → (r : Result (List (List ℕ)) ℕ)
+        → header_or_place (header_size c) (header_of c) ≡ r → IsOfJournal fault
+    by headed same (Err there) is =
+        inl (there, sym (fault_is (BadJournal there) fault (sym (known_in c (Err there) headed same is) ∙ bad)))
+    by headed same (Ok names) is =
+        list_refuses (list_in (listed names) (drop (front_size names) c)) fault (sym (known_in c (Ok names) headed same is) ∙ bad)
 
 found_refuses : (seen : Image) (fault : JournalFault) → found_in seen ≡ Err fault → IsOfJournal fault
 found_refuses seen fault bad = by (former_in (seen journal_name)) refl (journal_in (seen journal2_name)) refl
   where
-    by : (former : Found) → former_in (seen journal_name) ≡ former → (journal : Found) → journal_in (seen journal2_name) ≡ journal → IsOfJournal fault
+    by : (former : Found) → former_in (seen journal_name) ≡ former → (journal : Found)
+        → journal_in (seen journal2_name) ≡ journal → IsOfJournal fault
     by (Err other) is journal also =
         list_refuses (list_in plain (seen journal_name)) fault (is ∙ ap Err (fault_is other fault (sym (λ i. with_former (is i) (journal_in (seen journal2_name))) ∙ bad)))
     by (Ok former) is (Err other) also =

@@ -58,19 +58,24 @@ use Rattle.tool_single.specs.Sets.{AnswersSet, IsRefusal, Judged, Refused, forma
 -- ---- the mounts of a parent that was got are good
 
 -- a bad mount has a fault
-bad_fault : (files : List MountedFile) (n m : ℕ) → if_bad (store_alone files) n ≡ Some m → (why : GetFault) × (fault_at files m ≡ Some why)
+bad_fault : (files : List MountedFile) (n m : ℕ) → if_bad (store_alone files) n ≡ Some m
+    → (why : GetFault) × (fault_at files m ≡ Some why)
 bad_fault files n m bad = by (slice_get files n) refl bad
   where
-    in_state : (mount : Mount) (s : FileState) → slice_get files n ≡ Some (record { mount = mount; state = s }) → cond (is_bad s) (Some n) None ≡ Some m → (why : GetFault) × (fault_at files m ≡ Some why)
+    in_state : (mount : Mount) (s : FileState) → slice_get files n ≡ Some (record { mount = mount; state = s })
+        → cond (is_bad s) (Some n) None ≡ Some m → (why : GetFault) × (fault_at files m ≡ Some why)
     in_state mount (state.Good visible shadow) there e = absurd (none-some m e)
     in_state mount (state.Bad cause) there e =
         (fault_of mount.at cause, subst (λ (k : ℕ). fault_at files k ≡ Some (fault_of mount.at cause)) (same_Some n m e) (ap (option_and_then fault_in) there))
 
-    by : (o : Option MountedFile) → slice_get files n ≡ o → cond (option_map_or (λ (file : MountedFile). is_bad file.state) o false) (Some n) None ≡ Some m → (why : GetFault) × (fault_at files m ≡ Some why)
+    by : (o : Option MountedFile) → slice_get files n ≡ o
+        → cond (option_map_or (λ (file : MountedFile). is_bad file.state) o false) (Some n) None ≡ Some m
+        → (why : GetFault) × (fault_at files m ≡ Some why)
     by None there e = absurd (none-some m e)
     by (Some file) there e = in_state file.mount file.state there e
 
-good_parent : (files : List MountedFile) (parent : Name) (keys : KeyMap) → got_alone files parent ≡ Ok keys → first_bad (store_alone files) parent ≡ None
+good_parent : (files : List MountedFile) (parent : Name) (keys : KeyMap) → got_alone files parent ≡ Ok keys
+    → first_bad (store_alone files) parent ≡ None
 good_parent files parent keys has = by (first_bad (store_alone files) parent) refl
   where
     by : (o : Option ℕ) → first_bad (store_alone files) parent ≡ o → first_bad (store_alone files) parent ≡ None
@@ -98,11 +103,13 @@ module _ (files : List MountedFile) (sound : IsSound formats (store_alone files)
   set_core = record got_core { sets = put 0 (Some set) (λ p. None) }
 
   abbrev after_get : Goes formats store first_world (event.Get the_handle parent) (event.Got 0 (event.got store store.start the_handle parent)) got_core
-  after_get = follows formats store first_world (first_core store) (event.Get the_handle parent) (event.Got 0 (event.got store store.start the_handle parent)) got_core (first_stands formats store sound)
+  after_get =
+      follows formats store first_world (first_core store) (event.Get the_handle parent) (event.Got 0 (event.got store store.start the_handle parent)) got_core (first_stands formats store sound)
       (record { good = good; front_is = refl; keys_are = refl; next_is = refl })
 
   abbrev after_prepare : Goes formats store after_get.after (event.Prepare the_handle 0 parent keys) event.Ready set_core
-  after_prepare = follows formats store after_get.after got_core (event.Prepare the_handle 0 parent keys) event.Ready set_core after_get.stands (record { early = early; next_is = refl })
+  after_prepare =
+      follows formats store after_get.after got_core (event.Prepare the_handle 0 parent keys) event.Ready set_core after_get.stands (record { early = early; next_is = refl })
 
   abbrev after_commit : Goes formats store after_prepare.after (event.Commit the_handle 0) (event.Judged 0 (Commits commit aside)) (core_after store set_core the_handle set (Commits commit aside))
   after_commit = follows formats store after_prepare.after set_core (event.Commit the_handle 0) (event.Judged 0 (Commits commit aside)) (core_after store set_core the_handle set (Commits commit aside)) after_prepare.stands (record {
@@ -111,7 +118,8 @@ module _ (files : List MountedFile) (sound : IsSound formats (store_alone files)
   })
 
   pub legal : IsLegal formats store (commit ∷ [])
-  legal = subst (λ (h : List Commit). IsLegal formats store h) (sym after_commit.stands.history) after_commit.stands.legal
+  legal =
+      subst (λ (h : List Commit). IsLegal formats store h) (sym after_commit.stands.history) after_commit.stands.legal
 
 -- ---- by what was asked
 
@@ -132,7 +140,8 @@ module _ (MayRefuse : List ℕ → Type 0) (bytes_of : List ℕ → List ℕ) (a
     refusal (fault.BadTable why) p = nothing a (warned 5 (bad_table why)) p some
     refusal fault.Memory p = absurd p
 
-    of_set : (parent : Name) (keys : KeyMap) (out : List ℕ) → first_bad (store_alone files) parent ≡ None → AnswersSet MayRefuse files parent keys out a → One
+    of_set : (parent : Name) (keys : KeyMap) (out : List ℕ) → first_bad (store_alone files) parent ≡ None
+        → AnswersSet MayRefuse files parent keys out a → One
     of_set parent keys out good (Refused why early p) = told (preparing.fault_of (store_alone files).mounts why) p
       where
         told : (o : Option PrepareFault) → IsSomeAnd o (λ f. IsRefusal f a) → One
@@ -141,9 +150,12 @@ module _ (MayRefuse : List ℕ → Type 0) (bytes_of : List ℕ → List ℕ) (a
     of_set parent keys out good (Judged early (Same aside) late p) = nothing a (told out) p some
     of_set parent keys out good (Judged early (Conflict mount by) late p) = absurd p
     of_set parent keys out good (Judged early (TooLarge mount size) late p) = absurd p
-    of_set parent keys out good (Judged early (Invalid violation risen) late p) = nothing a (warned 5 (invalid violation)) p.1 some
-    of_set parent keys out good (Judged early (DatabaseFull weight) late p) = nothing a (warned 5 (database_full weight)) p some
-    of_set parent keys out good (Judged early (HistoryFull weight) late p) = nothing a (warned 5 (history_full weight)) p some
+    of_set parent keys out good (Judged early (Invalid violation risen) late p) =
+        nothing a (warned 5 (invalid violation)) p.1 some
+    of_set parent keys out good (Judged early (DatabaseFull weight) late p) =
+        nothing a (warned 5 (database_full weight)) p some
+    of_set parent keys out good (Judged early (HistoryFull weight) late p) =
+        nothing a (warned 5 (history_full weight)) p some
     of_set parent keys out good (Judged early (Commits commit aside) late p) = record {
       files = files;
       opened = opened;
@@ -152,12 +164,15 @@ module _ (MayRefuse : List ℕ → Type 0) (bytes_of : List ℕ → List ℕ) (a
       texts = ap (λ (x : Answer). x.stored) p;
     }
 
-    of_step : (parent : Name) (step : Step) → first_bad (store_alone files) parent ≡ None → AnswersStep MayRefuse files parent step a → One
+    of_step : (parent : Name) (step : Step) → first_bad (store_alone files) parent ≡ None
+        → AnswersStep MayRefuse files parent step a → One
     of_step parent (Tells report) good p = nothing a report p some
     of_step parent (Sets keys out) good p = of_set parent keys out good p
 
-    of_got : (name : Name) (action : Action) (keys : Result KeyMap GetFault) → got_alone files (parent_of name action) ≡ keys → AnswersGot MayRefuse files name action keys a → One
-    of_got name action (Ok keys) is p = of_step (parent_of name action) (step_of keys name action) (good_parent files (parent_of name action) keys is) p
+    of_got : (name : Name) (action : Action) (keys : Result KeyMap GetFault)
+        → got_alone files (parent_of name action) ≡ keys → AnswersGot MayRefuse files name action keys a → One
+    of_got name action (Ok keys) is p =
+        of_step (parent_of name action) (step_of keys name action) (good_parent files (parent_of name action) keys is) p
     of_got name action (Err why) is p = nothing a (warned 5 (line_of_get why)) p some
 
     of_text : (name : Name) (kind : Kind) (keys : KeyMap) → AnswersText name kind keys a → One
@@ -183,7 +198,8 @@ module _ (MayRefuse : List ℕ → Type 0) (bytes_of : List ℕ → List ℕ) (a
     of_question (ViolationsOf name) p = of_checked name (got_alone files every_key) p
     of_question (On name action) p = of_got name action (got_alone files (parent_of name action)) refl p
 
-  of_opened : (opened : Result (List MountedFile) OpenRefusal) (question : Question) → Opens all.Reads all.IsBadAt bytes_of opened → AnswersOpened MayRefuse opened question a → One
+  of_opened : (opened : Result (List MountedFile) OpenRefusal) (question : Question)
+      → Opens all.Reads all.IsBadAt bytes_of opened → AnswersOpened MayRefuse opened question a → One
   of_opened (Ok files) question opens p = of_question files opens question p
   of_opened (Err why) question opens p = nothing a (warned 5 (line_of_opening why)) p.1 some
 
@@ -200,5 +216,8 @@ module _ (MayRefuse : List ℕ → Type 0) (bytes_of : List ℕ → List ℕ) (a
   of_request (Asks question) input p = of_over question p
   of_request (Imports name kind) input p = of_import name kind (taken input) p
 
-pub stores_one : (MayRefuse : List ℕ → Type 0) (words : List (List ℕ)) (input : List ℕ) (files : List ℕ → List ℕ) (answer : Answer) → Answers MayRefuse words input files answer → answer.stored ≢ [] → IsOneCommit files answer.stored
-stores_one MayRefuse words input files answer answers some = of_request MayRefuse files answer some (request words) input answers
+pub stores_one : (MayRefuse : List ℕ → Type 0) (words : List (List ℕ)) (input : List ℕ) (files : List ℕ → List ℕ)
+    (answer : Answer) → Answers MayRefuse words input files answer → answer.stored ≢ []
+    → IsOneCommit files answer.stored
+stores_one MayRefuse words input files answer answers some =
+    of_request MayRefuse files answer some (request words) input answers

@@ -36,7 +36,8 @@ and_last true true c e = e
 and_last true false c e = refl
 and_last false b c e = refl
 
-checked_not : {A : Type 0} (is_good : Bool) (bytes : List ℕ) (field : A × List ℕ) (left : ℕ) → checked is_good bytes field ≡ Err left → (is_good ≡ false) × (left ≡ length bytes)
+checked_not : {A : Type 0} (is_good : Bool) (bytes : List ℕ) (field : A × List ℕ) (left : ℕ)
+    → checked is_good bytes field ≡ Err left → (is_good ≡ false) × (left ≡ length bytes)
 checked_not true bytes field left e = absurd cc
 checked_not false bytes field left e = (refl, cc)
 
@@ -52,21 +53,24 @@ record StrangeHere (names : List (List ℕ)) (previous bytes : List ℕ) (left :
   pub left_is : left ≡ length name + length rest
 
 -- a name that was read is read by the rule of some names too, if it is one of them, and else it is strange
-name_by : (names : List (List ℕ)) (previous : List ℕ) (n : ℕ) (behind : List ℕ) (name : List ℕ × List ℕ) → bytes_at (is_next_name previous) n behind ≡ Ok name → is_listed names name.0 ≡ true
+name_by : (names : List (List ℕ)) (previous : List ℕ) (n : ℕ) (behind : List ℕ) (name : List ℕ × List ℕ)
+    → bytes_at (is_next_name previous) n behind ≡ Ok name → is_listed names name.0 ≡ true
     → bytes_at (of_names names previous) n behind ≡ Ok name
 name_by names previous n behind name read listed =
     let taken = bytes_takes (is_next_name previous) n behind name read in
     ap₂ (bytes_at (of_names names previous)) (sym taken.count) taken.parts
     ∙ bytes_again (of_names names previous) name.0 name.1 (and_from (is_next_name previous name.0) (is_listed names name.0) taken.good listed)
 
-name_plain : (names : List (List ℕ)) (previous : List ℕ) (n : ℕ) (behind : List ℕ) (name : List ℕ × List ℕ) → bytes_at (of_names names previous) n behind ≡ Ok name
+name_plain : (names : List (List ℕ)) (previous : List ℕ) (n : ℕ) (behind : List ℕ) (name : List ℕ × List ℕ)
+    → bytes_at (of_names names previous) n behind ≡ Ok name
     → (bytes_at (is_next_name previous) n behind ≡ Ok name) × (is_listed names name.0 ≡ true)
 name_plain names previous n behind name read =
     let taken = bytes_takes (of_names names previous) n behind name read in
     let both = and_parts (is_next_name previous name.0) (is_listed names name.0) taken.good in
     (ap₂ (bytes_at (is_next_name previous)) (sym taken.count) taken.parts ∙ bytes_again (is_next_name previous) name.0 name.1 both.0, both.1)
 
-name_strange : (names : List (List ℕ)) (previous : List ℕ) (n : ℕ) (behind : List ℕ) (name : List ℕ × List ℕ) → bytes_at (is_next_name previous) n behind ≡ Ok name → is_listed names name.0 ≡ false
+name_strange : (names : List (List ℕ)) (previous : List ℕ) (n : ℕ) (behind : List ℕ) (name : List ℕ × List ℕ)
+    → bytes_at (is_next_name previous) n behind ≡ Ok name → is_listed names name.0 ≡ false
     → bytes_at (of_names names previous) n behind ≡ Err (length behind)
 name_strange names previous n behind name read strange =
     let c = checked_ok (leb n (length behind) && is_next_name previous (take n behind)) behind (take n behind, drop n behind) name read in
@@ -74,7 +78,8 @@ name_strange names previous n behind name read strange =
     ap (λ (good : Bool). checked good behind (take n behind, drop n behind))
     (and_last (leb n (length behind)) (is_next_name previous (take n behind)) (is_listed names (take n behind)) (ap (is_listed names) here ∙ strange))
 
-name_cut : (names : List (List ℕ)) (previous : List ℕ) (n : ℕ) (behind : List ℕ) (left : ℕ) → bytes_at (is_next_name previous) n behind ≡ Err left
+name_cut : (names : List (List ℕ)) (previous : List ℕ) (n : ℕ) (behind : List ℕ) (left : ℕ)
+    → bytes_at (is_next_name previous) n behind ≡ Err left
     → bytes_at (of_names names previous) n behind ≡ Err left
 name_cut names previous n behind left read =
     let c = checked_not (leb n (length behind) && is_next_name previous (take n behind)) behind (take n behind, drop n behind) left read in
@@ -85,7 +90,8 @@ err_is : {A : Type 0} (a b : ℕ) → ◌≡◌ {A = Result A ℕ} (Err a) (Err 
 err_is a b e = cc
 
 -- a file that isn't read by these names isn't read at all, or has a strange name
-file_compare : (names : List (List ℕ)) (previous bytes : List ℕ) (left : ℕ) → file_at (of_names names) previous bytes ≡ Err left
+file_compare : (names : List (List ℕ)) (previous bytes : List ℕ) (left : ℕ)
+    → file_at (of_names names) previous bytes ≡ Err left
     → (file_at is_next_name previous bytes ≡ Err left) ⊎ StrangeHere names previous bytes left
 unfolding file_at
 file_compare names previous [] left e = inl e
@@ -97,7 +103,8 @@ file_compare names previous (n ∷ behind) left e = elim (bytes_at (is_next_name
       | Ok name ↦ λ is. by name is (is_listed names name.0) refl
     ] refl
   where
-    by : (name : List ℕ × List ℕ) → bytes_at (is_next_name previous) n behind ≡ Ok name → (listed : Bool) → is_listed names name.0 ≡ listed
+    by : (name : List ℕ × List ℕ) → bytes_at (is_next_name previous) n behind ≡ Ok name → (listed : Bool)
+        → is_listed names name.0 ≡ listed
         → (file_at is_next_name previous (n ∷ behind) ≡ Err left) ⊎ StrangeHere names previous (n ∷ behind) left
     by name is true listed =
         inl (ap (λ (r : Field (List ℕ)). r >>= after_name) is ∙ sym (ap (λ (r : Field (List ℕ)). r >>= after_name) (name_by names previous n behind name is listed)) ∙ e)
@@ -120,7 +127,8 @@ name_of_file name x e =
     let c = bind_ok (bytes_at is_content l.0.0 l.0.1) (after_content name) x l.2 in
     ap (λ (p : FileText × List ℕ). p.0.file) (ok_is (record { file = name.0; bytes = c.0.0 }, c.0.1) x c.2)
 
-file_plain : (names : List (List ℕ)) (previous bytes : List ℕ) (x : FileText × List ℕ) → file_at (of_names names) previous bytes ≡ Ok x
+file_plain : (names : List (List ℕ)) (previous bytes : List ℕ) (x : FileText × List ℕ)
+    → file_at (of_names names) previous bytes ≡ Ok x
     → (file_at is_next_name previous bytes ≡ Ok x) × (is_listed names x.0.file ≡ true)
 unfolding file_at
 file_plain names previous bytes x e =
@@ -131,7 +139,8 @@ file_plain names previous bytes x e =
       subst (λ (text : List ℕ). is_listed names text ≡ true) (name_of_file n.0 x n.2) plain.1,
     )
 
-file_of_names : (names : List (List ℕ)) (previous bytes : List ℕ) (x : FileText × List ℕ) → file_at is_next_name previous bytes ≡ Ok x → is_listed names x.0.file ≡ true
+file_of_names : (names : List (List ℕ)) (previous bytes : List ℕ) (x : FileText × List ℕ)
+    → file_at is_next_name previous bytes ≡ Ok x → is_listed names x.0.file ≡ true
     → file_at (of_names names) previous bytes ≡ Ok x
 unfolding file_at
 file_of_names names previous bytes x e listed =
@@ -159,11 +168,13 @@ record StrangeFrom (names : List (List ℕ)) (count : ℕ) (previous bytes : Lis
   pub parts : bytes ≡ (flat_map spelled_file files ++ (length name ∷ name)) ++ rest
   pub left_is : left ≡ length name + length rest
 
-others_stop : (first : FileText × List ℕ) (r : Field (List FileText)) (left : ℕ) → (r >>= after_others first) ≡ Err left → r ≡ Err left
+others_stop : (first : FileText × List ℕ) (r : Field (List FileText)) (left : ℕ) → (r >>= after_others first) ≡ Err left
+    → r ≡ Err left
 others_stop first (Ok x) left e = absurd cc
 others_stop first (Err stop) left e = cc
 
-strange_first : (names : List (List ℕ)) (count : ℕ) (previous bytes : List ℕ) (left : ℕ) → StrangeHere names previous bytes left → StrangeFrom names (suc count) previous bytes left
+strange_first : (names : List (List ℕ)) (count : ℕ) (previous bytes : List ℕ) (left : ℕ)
+    → StrangeHere names previous bytes left → StrangeFrom names (suc count) previous bytes left
 strange_first names count previous bytes left here =
     let next = next_name_is previous here.name here.next in
     record {
@@ -179,7 +190,8 @@ strange_first names count previous bytes left here =
       left_is = here.left_is;
     }
 
-strange_more : (names : List (List ℕ)) (count : ℕ) (previous bytes : List ℕ) (x : FileText × List ℕ) (left : ℕ) → IsBytes bytes → file_at is_next_name previous bytes ≡ Ok x → is_listed names x.0.file ≡ true
+strange_more : (names : List (List ℕ)) (count : ℕ) (previous bytes : List ℕ) (x : FileText × List ℕ) (left : ℕ)
+    → IsBytes bytes → file_at is_next_name previous bytes ≡ Ok x → is_listed names x.0.file ≡ true
     → StrangeFrom names count x.0.file x.1 left → StrangeFrom names (suc count) previous bytes left
 strange_more names count previous bytes x left is_bytes read listed more =
     let taken = file_takes previous bytes x read in
@@ -200,7 +212,8 @@ strange_more names count previous bytes x left is_bytes read listed more =
     regrouped : (a b c d : List ℕ) → ((a ++ b) ++ c) ++ d ≡ a ++ ((b ++ c) ++ d)
     regrouped a b c d = simp append_assoc
 
-compare : (names : List (List ℕ)) (count : ℕ) (previous bytes : List ℕ) (left : ℕ) → IsBytes bytes → files_at (of_names names) count previous bytes ≡ Err left
+compare : (names : List (List ℕ)) (count : ℕ) (previous bytes : List ℕ) (left : ℕ) → IsBytes bytes
+    → files_at (of_names names) count previous bytes ≡ Err left
     → (files_at is_next_name count previous bytes ≡ Err left) ⊎ StrangeFrom names count previous bytes left
 unfolding files_at
 compare names zero previous bytes left is_bytes e = absurd cc
@@ -224,7 +237,8 @@ compare names (suc count) previous bytes left is_bytes e = elim (file_at (of_nam
     ] refl e
 
 -- bytes that keep no rule aren't taken
-bytes_none : (rule : List ℕ → Bool) (text rest : List ℕ) → rule text ≡ false → bytes_at rule (length text) (text ++ rest) ≡ Err (length (text ++ rest))
+bytes_none : (rule : List ℕ → Bool) (text rest : List ℕ) → rule text ≡ false
+    → bytes_at rule (length text) (text ++ rest) ≡ Err (length (text ++ rest))
 bytes_none rule text rest bad =
     ap (λ (good : Bool). checked good (text ++ rest) (take (length text) (text ++ rest), drop (length text) (text ++ rest)))
     (no (leb (length text) (length (text ++ rest))) (rule (take (length text) (text ++ rest))) (ap rule (take_at text rest (length text) refl) ∙ bad))
@@ -234,12 +248,16 @@ bytes_none rule text rest bad =
     no false b e = refl
 
 -- and reading by these names stops at a strange one
-strange_stops : (names : List (List ℕ)) (count : ℕ) (previous : List ℕ) (files : List FileText) (name rest : List ℕ) → length (files ++ stub name ∷ []) ≤ count → Rises previous (names_of (files ++ stub name ∷ []))
-    → AllByRecursion IsEntryFile (files ++ stub name ∷ []) → are_listed names files ≡ true → is_listed names name ≡ false
-    → files_at (of_names names) count previous ((flat_map spelled_file files ++ (length name ∷ name)) ++ rest) ≡ Err (length name + length rest)
+strange_stops : (names : List (List ℕ)) (count : ℕ) (previous : List ℕ) (files : List FileText) (name rest : List ℕ)
+    → length (files ++ stub name ∷ []) ≤ count → Rises previous (names_of (files ++ stub name ∷ []))
+    → AllByRecursion IsEntryFile (files ++ stub name ∷ []) → are_listed names files ≡ true
+    → is_listed names name ≡ false
+    → files_at (of_names names) count previous ((flat_map spelled_file files ++ (length name ∷ name)) ++ rest)
+    ≡ Err (length name + length rest)
 unfolding files_at file_at
 strange_stops names zero previous [] name rest within rises each listed strange = absurd (omega (arith, within))
-strange_stops names zero previous (f ∷ files) name rest within rises each listed strange = absurd (omega (arith, within))
+strange_stops names zero previous (f ∷ files) name rest within rises each listed strange =
+    absurd (omega (arith, within))
 strange_stops names (suc count) previous [] name rest within rises each listed strange =
     let after = after_first (file_at (of_names names)) (λ (f : FileText). f.file) count in
     ap (λ (r : Field (List ℕ)). (r >>= after_name) >>= after) (bytes_none (of_names names previous) name rest (no (is_next_name previous name) (is_listed names name) strange))
@@ -261,7 +279,8 @@ strange_stops names (suc count) previous (f ∷ files) name rest within rises ea
 
 -- ---- a whole body
 
-strange_of : (names : List (List ℕ)) (body : List ℕ) (x : ℕ × List ℕ) (left : ℕ) → count_at body ≡ Ok x → StrangeFrom names x.0 [] x.1 left → IsStrangeName names body (length body - left)
+strange_of : (names : List (List ℕ)) (body : List ℕ) (x : ℕ × List ℕ) (left : ℕ) → count_at body ≡ Ok x
+    → StrangeFrom names x.0 [] x.1 left → IsStrangeName names body (length body - left)
 strange_of names body x left is from =
     let count = count_takes body x is in
     let front = count.parts ∙ ap (λ (behind : List ℕ). x.0 ∷ behind) from.parts in
@@ -285,13 +304,15 @@ strange_of names body x left is from =
           );
     }
 
-plain_files : (names : List (List ℕ)) (x : ℕ × List ℕ) (y : List FileText × List ℕ) → files_at (of_names names) x.0 [] x.1 ≡ Ok y → files_at is_next_name x.0 [] x.1 ≡ Ok y
+plain_files : (names : List (List ℕ)) (x : ℕ × List ℕ) (y : List FileText × List ℕ)
+    → files_at (of_names names) x.0 [] x.1 ≡ Ok y → files_at is_next_name x.0 [] x.1 ≡ Ok y
 unfolding files_at
 plain_files names x y reads =
     let listed = items_keep (file_at (of_names names)) (λ f. f.file) (λ f. is_listed names f.file) (λ previous bytes z read. (file_plain names previous bytes z read).1) x.0 [] x.1 y reads in
     items_alike (file_at (of_names names)) (file_at is_next_name) (λ f. f.file) (λ f. is_listed names f.file) (λ previous bytes z read good. (file_plain names previous bytes z read).0) x.0 [] x.1 y reads listed
 
-compare_all : (names : List (List ℕ)) (body : List ℕ) (left : ℕ) → IsBytes body → all_of (of_names names) body ≡ Err left
+compare_all : (names : List (List ℕ)) (body : List ℕ) (left : ℕ) → IsBytes body
+    → all_of (of_names names) body ≡ Err left
     → (all_of is_next_name body ≡ Err left) ⊎ IsStrangeName names body (length body - left)
 unfolding all_of
 compare_all names body left is_bytes e = elim (count_at body) as
@@ -300,7 +321,8 @@ compare_all names body left is_bytes e = elim (count_at body) as
       | Ok x ↦ λ is d. by x is (files_at (of_names names) x.0 [] x.1) refl d
     ] refl e
   where
-    by : (x : ℕ × List ℕ) → count_at body ≡ Ok x → (r : Field (List FileText)) → files_at (of_names names) x.0 [] x.1 ≡ r → (r >>= at_end) ≡ Err left
+    by : (x : ℕ × List ℕ) → count_at body ≡ Ok x → (r : Field (List FileText))
+        → files_at (of_names names) x.0 [] x.1 ≡ r → (r >>= at_end) ≡ Err left
         → (all_of is_next_name body ≡ Err left) ⊎ IsStrangeName names body (length body - left)
     by x is (Err stop) reads d =
         let same : stop ≡ left = cc in
@@ -314,7 +336,8 @@ compare_all names body left is_bytes e = elim (count_at body) as
         inl (bind_is (count_at body) (after_count (files_at is_next_name)) x (Err left) is (ap (λ (r : Field (List FileText)). r >>= at_end) plain ∙ d))
 
 -- where a strange name stands, reading by these names stops there
-strange_all : (names : List (List ℕ)) (body : List ℕ) (at : ℕ) (is : IsStrangeName names body at) → all_of (of_names names) body ≡ Err (length is.name + length is.front.0)
+strange_all : (names : List (List ℕ)) (body : List ℕ) (at : ℕ) (is : IsStrangeName names body at)
+    → all_of (of_names names) body ≡ Err (length is.name + length is.front.0)
 unfolding all_of
 strange_all names body at is =
     let first = is.can_begin in
@@ -327,7 +350,8 @@ strange_all names body at is =
     (ap (λ (r : Field (List FileText)). r >>= at_end) (strange_stops names is.count [] is.files is.name is.front.0 first.within rises each is.listed is.strange))
 
 -- the bytes from a strange name on
-strange_left : (names : List (List ℕ)) (body : List ℕ) (at : ℕ) (is : IsStrangeName names body at) → at + (length is.name + length is.front.0) ≡ length body
+strange_left : (names : List (List ℕ)) (body : List ℕ) (at : ℕ) (is : IsStrangeName names body at)
+    → at + (length is.name + length is.front.0) ≡ length body
 strange_left names body at is =
     omega (
       arith,
@@ -349,7 +373,8 @@ strange_some names body at is =
 
 -- ---- as it is read
 
-fails_by : (size : ℕ) (read : Result (List FileText) ℕ) (at : ℕ) → reading_of size read ≡ Fails at → (left : ℕ) × (read ≡ Err left) × (at ≡ size - left)
+fails_by : (size : ℕ) (read : Result (List FileText) ℕ) (at : ℕ) → reading_of size read ≡ Fails at
+    → (left : ℕ) × (read ≡ Err left) × (at ≡ size - left)
 fails_by size (Ok files) at e = absurd cc
 fails_by size (Err left) at e = (left, refl, cc)
 
@@ -361,7 +386,8 @@ module _ (names : List (List ℕ)) (body : List ℕ) (bytes : All (λ b. b < 256
   plain_bytes = IsBytes-uncounted body (IsBytes-from_All body bytes)
 
   -- a body that isn't read fails as each body does, or at a strange name
-  listed_splits : (at : ℕ) → followed body ≡ true → read_listed names body ≡ Fails at → (read_body (uncounted body) ≡ Fails at) ⊎ IsStrangeName names (uncounted body) at
+  listed_splits : (at : ℕ) → followed body ≡ true → read_listed names body ≡ Fails at
+      → (read_body (uncounted body) ≡ Fails at) ⊎ IsStrangeName names (uncounted body) at
   unfolding read_body
   listed_splits at goes_on reads =
       let stop = fails_by (length body) (all_of (of_names names) (uncounted body)) at (sym (listed_reads names body (all_of (of_names names) (uncounted body)) goes_on refl) ∙ reads) in
@@ -372,14 +398,16 @@ module _ (names : List (List ℕ)) (body : List ℕ) (bytes : All (λ b. b < 256
       ]
 
   -- a strange name is where the reading stops
-  strange_reads : (at : ℕ) → followed body ≡ true → IsStrangeName names (uncounted body) at → read_listed names body ≡ Fails at
+  strange_reads : (at : ℕ) → followed body ≡ true → IsStrangeName names (uncounted body) at
+      → read_listed names body ≡ Fails at
   strange_reads at goes_on strange =
       let left = strange_left names (uncounted body) at strange in
       listed_reads names body (Err (length strange.name + length strange.front.0)) goes_on (strange_all names (uncounted body) at strange)
       ∙ ap Fails (omega (arith, left, length-uncounted body))
 
   -- and no place behind it is told
-  none_strange : (at : ℕ) → followed body ≡ true → read_listed names body ≡ Fails at → IsPlace (uncounted body) at → (other : ℕ) → ¬ IsStrangeName names (uncounted body) other
+  none_strange : (at : ℕ) → followed body ≡ true → read_listed names body ≡ Fails at → IsPlace (uncounted body) at
+      → (other : ℕ) → ¬ IsStrangeName names (uncounted body) other
   none_strange at goes_on reads place other strange =
       let same : other ≡ at = fails_is other at (sym (strange_reads other goes_on strange) ∙ reads) in
       let long = place.longest (Begun strange.count strange.files (Some strange.name)) strange.can_begin strange.front in

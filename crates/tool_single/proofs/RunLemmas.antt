@@ -36,7 +36,8 @@ module _ {D : Type 0} (g : Ghosts D) (disk end : D) (files : Image) (doubt : Opt
   Does r = Serve g files doubt (Answers (MayRefuse r before now) words input opened) r disk end
 
   -- an answer was worked out, and what it stores was stored
-  by_answer : (report : code.Report) → Served g files doubt Answered (report_of report) disk end → Delivers (report_of report) status out err → Follows g files doubt Answered disk end status out err
+  by_answer : (report : code.Report) → Served g files doubt Answered (report_of report) disk end
+      → Delivers (report_of report) status out err → Follows g files doubt Answered disk end status out err
   by_answer report does delivers = record {
     answer = does.answer;
     answers = does.answers;
@@ -50,7 +51,8 @@ module _ {D : Type 0} (g : Ghosts D) (disk end : D) (files : Image) (doubt : Opt
   }
 
   -- memory was wanting
-  by_memory : serving.Unserved g files doubt disk end → Delivers (warned 70 out_of_memory) status out err → EndsWithout g files doubt input_failed disk end status out err
+  by_memory : serving.Unserved g files doubt disk end → Delivers (warned 70 out_of_memory) status out err
+      → EndsWithout g files doubt input_failed disk end status out err
   by_memory does delivers = record {
     cause = elim (without_out status out err delivers) as (λ x. (status ≡ 70) ⊎ (status ≡ 74)) [ inl memory ↦ inl memory | inr failed ↦ inr failed.0 ];
     prefix = put_front (warned 70 out_of_memory) status out err delivers;
@@ -60,7 +62,8 @@ module _ {D : Type 0} (g : Ghosts D) (disk end : D) (files : Image) (doubt : Opt
   }
 
   -- the input failed
-  by_input : serving.Unserved g files doubt disk end → input_failed → Delivers (warned 74 read_fault) status out err → EndsWithout g files doubt input_failed disk end status out err
+  by_input : serving.Unserved g files doubt disk end → input_failed → Delivers (warned 74 read_fault) status out err
+      → EndsWithout g files doubt input_failed disk end status out err
   by_input does failed delivers = record {
     cause = inr (fault_status read_fault status out err delivers);
     prefix = put_front (warned 74 read_fault) status out err delivers;
@@ -70,7 +73,8 @@ module _ {D : Type 0} (g : Ghosts D) (disk end : D) (files : Image) (doubt : Opt
   }
 
   -- the disk failed to store an answer, which no refused pattern has to do with
-  by_storing : serving.Unstored g files doubt (Answers (MayRefuse (Err stops.DiskFault) before now) words input opened) disk end → Delivers (warned 74 disk_fault) status out err → EndsUnstored g files doubt Answered disk end status out
+  by_storing : serving.Unstored g files doubt (Answers (MayRefuse (Err stops.DiskFault) before now) words input opened) disk end
+      → Delivers (warned 74 disk_fault) status out err → EndsUnstored g files doubt Answered disk end status out
   by_storing fails delivers = record {
     status_is = fault_status disk_fault status out err delivers;
     prefix = put_front (warned 74 disk_fault) status out err delivers;
@@ -84,7 +88,9 @@ module _ {D : Type 0} (g : Ghosts D) (disk end : D) (files : Image) (doubt : Opt
   }
 
   -- or it failed before one was sought
-  by_disk : Failing g files doubt (Answers (MayRefuse (Err stops.DiskFault) before now) words input opened) disk end → HasRisen (g.faults disk) (g.faults end) → Delivers (warned 74 disk_fault) status out err → Ran g files doubt Answered input_failed disk end status out err
+  by_disk : Failing g files doubt (Answers (MayRefuse (Err stops.DiskFault) before now) words input opened) disk end
+      → HasRisen (g.faults disk) (g.faults end) → Delivers (warned 74 disk_fault) status out err
+      → Ran g files doubt Answered input_failed disk end status out err
   by_disk (Storing fails) rose delivers = NotStored (by_storing fails delivers)
   by_disk (Seeking left) rose delivers =
       Without (record {
@@ -95,7 +101,9 @@ module _ {D : Type 0} (g : Ghosts D) (disk end : D) (files : Image) (doubt : Opt
         why = λ still. absurd (still rose);
       })
 
-  pub ran : (r : Result code.Report Stop) → Does r → (r ≡ Err stops.ReadFault → input_failed) → (r ≡ Err stops.DiskFault → HasRisen (g.faults disk) (g.faults end)) → Delivers (ending r) status out err → Ran g files doubt Answered input_failed disk end status out err
+  pub ran : (r : Result code.Report Stop) → Does r → (r ≡ Err stops.ReadFault → input_failed)
+      → (r ≡ Err stops.DiskFault → HasRisen (g.faults disk) (g.faults end)) → Delivers (ending r) status out err
+      → Ran g files doubt Answered input_failed disk end status out err
   ran (Ok report) does fails cause delivers = ByAnswer (by_answer report does delivers)
   ran (Err stops.Memory) does fails cause delivers = Without (by_memory does delivers)
   ran (Err stops.DiskFault) does fails cause delivers = by_disk does (cause refl) delivers

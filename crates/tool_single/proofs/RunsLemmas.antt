@@ -56,16 +56,19 @@ pub record Went {D : Type 0} (g : Ghosts D) (files : Image) (doubt : Option (Lis
 
 no_rise : (before now mid : ℕ) → MetNoFault before now → HasRisen before mid → mid ≤ now → ⊥
 no_rise before now mid well (inl lt) le = let same = well.0 in omega (arith, same, lt, le)
-no_rise before now mid well (inr end) le = let same = well.0 in let short = well.1 in omega (arith, same, short, end, le)
+no_rise before now mid well (inr end) le =
+    let same = well.0 in let short = well.1 in omega (arith, same, short, end, le)
 
 unrisen : (before now : ℕ) → MetNoFault before now → HasRisen before now → ⊥
 unrisen before now well rose = no_rise before now now well rose (omega arith)
 
 -- what a disk may leave now it might have left since any moment
 abbrev pub CountsNow : {D : Type 0} → Ghosts D → Type 0
-CountsNow {D} g = (disk : D) (since : ℕ) (image : Image) → g.tells disk ≡ true → since ≤ g.moment disk → IsImage (g.may_leave disk) image → g.left_since disk since image
+CountsNow {D} g =
+    (disk : D) (since : ℕ) (image : Image) → g.tells disk ≡ true → since ≤ g.moment disk → IsImage (g.may_leave disk) image → g.left_since disk since image
 
-pub went_of : {D : Type 0} (g : Ghosts D) (files : Image) (doubt : Option (List FileText)) (run : OneRun D) → CountsNow g
+pub went_of : {D : Type 0} (g : Ghosts D) (files : Image) (doubt : Option (List FileText)) (run : OneRun D)
+    → CountsNow g
     → HasRan g run → IsCalm (g.seen run.found) (g.may_leave run.found) files doubt → Went g files doubt run
 went_of g files doubt run counts has calm = elim (has.ran files doubt calm) as (λ r. Went g files doubt run) [
   | ByAnswer f ↦ record {
@@ -133,11 +136,18 @@ amid files opened (text ∷ texts) image same decided (inr only) =
     same_entry a b e = cc
 
 -- a disk is calm with the files that all its images stand for, and the doubt
-calm_with : (seen : Image) (leaves : List ℕ → List ℕ → Type 0) (files others : Image) (doubt other : Option (List FileText))
+calm_with : (seen : Image) (leaves : List ℕ → List ℕ → Type 0) (files others : Image)
+    (doubt other : Option (List FileText))
     → IsCalm seen leaves others other
     → EveryImage leaves (HasOnly (IsEither files doubt)) → IsCalm seen leaves files doubt
 calm_with seen leaves files others doubt other calm only =
-    record { same = calm.same; former = calm.former; journal = calm.journal; not_broken = calm.not_broken; outcomes = λ image outcome is has. (only image is).each outcome has }
+    record {
+      same = calm.same;
+      former = calm.former;
+      journal = calm.journal;
+      not_broken = calm.not_broken;
+      outcomes = λ image outcome is has. (only image is).each outcome has;
+    }
 
 -- a disk that stays calm is at rest
 calm_rests : {D : Type 0} (g : Ghosts D) (files : Image) (doubt : Option (List FileText)) (texts : Texts) (disk end : D)
@@ -149,9 +159,11 @@ record Rests {D : Type 0} (g : Ghosts D) (run : OneRun D) : Type 0 where
   pub at_rest : IsAtRest g run.left
   pub how : IsAnswered run.status ⊎ MetNoFault (g.faults run.found) (g.faults run.left)
 
-rests_by : {D : Type 0} (g : Ghosts D) (files : Image) (doubt : Option (List FileText)) (run : OneRun D) → Went g files doubt run
+rests_by : {D : Type 0} (g : Ghosts D) (files : Image) (doubt : Option (List FileText)) (run : OneRun D)
+    → Went g files doubt run
     → MetNoFault (g.faults run.found) (g.faults run.left) ⊎ (IsAnswered run.status × IsAtRest g run.left) → Rests g run
-rests_by g files doubt run went (inl well) = record { at_rest = calm_rests g files doubt went.texts run.found run.left (went.calm well); how = inr well }
+rests_by g files doubt run went (inl well) =
+    record { at_rest = calm_rests g files doubt went.texts run.found run.left (went.calm well); how = inr well }
 rests_by g files doubt run went (inr answered) = record { at_rest = answered.1; how = inl answered.0 }
 
 -- what one run has stored, and the next one's disk
@@ -162,7 +174,8 @@ pub record Passes {D : Type 0} (g : Ghosts D) (files : Image) (run : OneRun D) (
 
 passes : {D : Type 0} (g : Ghosts D) (files : Image) (run : OneRun D) (next : D) → Went g files None run
     → SameFiles (opened_files (g.seen run.found)) files
-    → (ending : Ending) → run.ending ≡ ending → Finds g run next ending → (run.ending ≡ CutOff → IsDecided (g.seen next)) → Passes g files run next
+    → (ending : Ending) → run.ending ≡ ending → Finds g run next ending
+    → (run.ending ≡ CutOff → IsDecided (g.seen next)) → Passes g files run next
 passes g files run next went found Ended is finds decided =
     let rests = rests_by g files None run went finds.1 in
     record {
@@ -203,7 +216,8 @@ abbrev pub ReadsImages : {D : Type 0} → Ghosts D → Type 0
 ReadsImages {D} g = (disk : D) → g.tells disk ≡ true → IsImage (g.may_leave disk) (g.seen disk)
 
 pub history_of : {D : Type 0} (g : Ghosts D) → CountsNow g → ReadsImages g
-    → (first : D) (files : Image) (runs : List (OneRun D)) (last : D) → IsCalm (g.seen first) (g.may_leave first) files None
+    → (first : D) (files : Image) (runs : List (OneRun D)) (last : D)
+    → IsCalm (g.seen first) (g.may_leave first) files None
     → AreRuns g first runs last → AreDecided g runs last → (stored : List Texts) × IsHistory g files runs stored last
 history_of g counts reads first files [] last calm are decided =
     let here = subst (λ d. IsCalm (g.seen d) (g.may_leave d) files None) are.0 calm in
@@ -224,10 +238,12 @@ remains_so : (files opened : Image) (doubt : Option (List FileText)) (texts : Te
     → MayRemain files doubt opened texts image
     → HasOnly (IsEither (files_behind files opened texts) (doubt_behind doubt texts)) image
 remains_so files opened doubt [] image only = only
-remains_so files opened doubt (text ∷ texts) image only = record { not_broken = only.not_broken; each = λ outcome has. inl (only.each outcome has) }
+remains_so files opened doubt (text ∷ texts) image only =
+    record { not_broken = only.not_broken; each = λ outcome has. inl (only.each outcome has) }
 
 -- what is left of one that was cut off
-amid_so : (files opened : Image) (doubt : Option (List FileText)) (texts : Texts) (image : Image) → MayBeLeft files doubt opened texts image
+amid_so : (files opened : Image) (doubt : Option (List FileText)) (texts : Texts) (image : Image)
+    → MayBeLeft files doubt opened texts image
     → HasOnly (IsEither files doubt) image ⊎ HasOnly (IsEither opened (Some (entry_of texts))) image
 amid_so files opened doubt [] image only = inl only
 amid_so files opened doubt (text ∷ texts) image only = only
@@ -240,7 +256,8 @@ IsCalmBehind g files doubt run next texts =
     ⊎ ((run.ending ≡ CutOff) × (IsCalm (g.seen next) (g.may_leave next) files doubt
     ⊎ IsCalm (g.seen next) (g.may_leave next) (opened_files (g.seen run.found)) (Some (entry_of texts))))
 
-calm_behind : {D : Type 0} (g : Ghosts D) (files : Image) (doubt : Option (List FileText)) (run : OneRun D) (next : D) (went : Went g files doubt run)
+calm_behind : {D : Type 0} (g : Ghosts D) (files : Image) (doubt : Option (List FileText)) (run : OneRun D) (next : D)
+    (went : Went g files doubt run)
     → (ending : Ending) → run.ending ≡ ending → Finds g run next ending → IsCalmBehind g files doubt run next went.texts
 calm_behind g files doubt run next went Ended is finds =
     let opened = opened_files (g.seen run.found) in
@@ -264,7 +281,8 @@ calm_behind g files doubt run next went CutOff is finds =
 
 pub found_by : {D : Type 0} (g : Ghosts D) → CountsNow g → ReadsImages g
     → (first : D) (files : Image) (doubt : Option (List FileText)) (runs : List (OneRun D)) (last : D)
-    → IsCalm (g.seen first) (g.may_leave first) files doubt → AreRuns g first runs last → AreFound g files doubt runs last
+    → IsCalm (g.seen first) (g.may_leave first) files doubt → AreRuns g first runs last
+    → AreFound g files doubt runs last
 found_by g counts reads first files doubt [] last calm are =
     let here = subst (λ d. IsCalm (g.seen d) (g.may_leave d) files doubt) are.0 calm in
     calm_files (g.seen last) (g.may_leave last) files doubt here (reads last are.1)
@@ -294,8 +312,10 @@ found_by g counts reads first files doubt (run ∷ runs) last calm are =
 -- ---- what the top call ensures
 
 -- of a fault of the input nothing is asked
-pub any_input : {D : Type 0} (g : Ghosts D) (files : Image) (doubt : Option (List FileText)) (Answered : Answer → Type 0) (input_failed : Type 0) (disk end : D) (status : ℕ) (out err : Change)
-    → Ran g files doubt Answered input_failed disk end status out err → Ran g files doubt Answered (Unit {0}) disk end status out err
+pub any_input : {D : Type 0} (g : Ghosts D) (files : Image) (doubt : Option (List FileText))
+    (Answered : Answer → Type 0) (input_failed : Type 0) (disk end : D) (status : ℕ) (out err : Change)
+    → Ran g files doubt Answered input_failed disk end status out err
+    → Ran g files doubt Answered (Unit {0}) disk end status out err
 any_input g files doubt Answered input_failed disk end status out err (ByAnswer f) = ByAnswer f
 any_input g files doubt Answered input_failed disk end status out err (NotStored f) = NotStored f
 any_input g files doubt Answered input_failed disk end status out err (Without f) = Without (record {

@@ -69,7 +69,8 @@ the_formats = record {
 -- ---- the state of a file
 
 module _ (points : List Name) (i : ℕ) (mount : Mount) (bytes : List ℕ) where
-  state-writable : (s : FileState) → IsState all.Reads all.IsBadAt points i mount bytes s → CanBeWritten all.IsStorable points i mount s
+  state-writable : (s : FileState) → IsState all.Reads all.IsBadAt points i mount bytes s
+      → CanBeWritten all.IsStorable points i mount s
   state-writable (state.Good visible shadow) is =
       let held = is.1 in
       let limited : IsLimited held.keys = (laws.lawful mount.kind).read_is_limited bytes held.keys held.reads_as.reads in
@@ -92,10 +93,13 @@ module _ (points : List Name) (i : ℕ) (mount : Mount) (bytes : List ℕ) where
 -- ---- the files, weighed
 
 -- a weighed file is one that was weighed
-weighed-at : (sum : ℕ) (files : List MountedFile) (i : ℕ) (file : MountedFile) → slice_get (weighed_from sum files) i ≡ Some file → (before : ℕ) × (other : MountedFile) × (slice_get files i ≡ Some other) × (weighed_file before other ≡ file)
+weighed-at : (sum : ℕ) (files : List MountedFile) (i : ℕ) (file : MountedFile)
+    → slice_get (weighed_from sum files) i ≡ Some file
+    → (before : ℕ) × (other : MountedFile) × (slice_get files i ≡ Some other) × (weighed_file before other ≡ file)
 weighed-at sum [] i file there = absurd (none-some file there)
 weighed-at sum (first ∷ files) zero file there = (sum, first, refl, same_Some (weighed_file sum first) file there)
-weighed-at sum (first ∷ files) (suc i) file there = weighed-at (sum + added_weight (weighed_file sum first)) files i file there
+weighed-at sum (first ∷ files) (suc i) file there =
+    weighed-at (sum + added_weight (weighed_file sum first)) files i file there
 
 module _ (bytes_of : List ℕ → List ℕ) (files : List MountedFile) (opened : IsOpened all.Reads all.IsBadAt bytes_of files) where
   same_points : points_of files ≡ points_of opened.unweighed
@@ -105,8 +109,11 @@ module _ (bytes_of : List ℕ → List ℕ) (files : List MountedFile) (opened :
       ∙ ap (over (λ (mount : Mount). mount.at)) (mounts-from (own_weight opened.unweighed) opened.unweighed)
       ∙ points-of_mounts opened.unweighed
 
-  found : (i : ℕ) (file : MountedFile) → slice_get files i ≡ Some file → (before : ℕ) × (other : MountedFile) × (slice_get opened.unweighed i ≡ Some other) × (weighed_file before other ≡ file)
-  found i file there = weighed-at (own_weight opened.unweighed) opened.unweighed i file (ap (λ (fs : List MountedFile). slice_get fs i) (sym opened.is) ∙ there)
+  found : (i : ℕ) (file : MountedFile) → slice_get files i ≡ Some file
+      → (before : ℕ) × (other : MountedFile) × (slice_get opened.unweighed i ≡ Some other)
+      × (weighed_file before other ≡ file)
+  found i file there =
+      weighed-at (own_weight opened.unweighed) opened.unweighed i file (ap (λ (fs : List MountedFile). slice_get fs i) (sym opened.is) ∙ there)
 
   writable : AllCanBeWritten all.IsStorable files
   writable i file there =
@@ -125,4 +132,5 @@ module _ (bytes_of : List ℕ → List ℕ) (files : List MountedFile) (opened :
       subst (λ (f : MountedFile). HasShortTexts f.state) at.3 (weighed_file-short at.0 other has))
 
   pub opened-sound : IsSound formats (store_alone files)
-  opened-sound = sound_store the_formats files (λ handle. no_keys) writable short (opened-made all.Reads all.IsBadAt bytes_of files opened)
+  opened-sound =
+      sound_store the_formats files (λ handle. no_keys) writable short (opened-made all.Reads all.IsBadAt bytes_of files opened)

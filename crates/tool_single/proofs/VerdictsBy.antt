@@ -82,19 +82,26 @@ module _ (MayRefuse : List ℕ → Type 0) (formats : Formats) (store : Store) (
 
   -- ---- one at most
 
-  step_once : (late other : Late) (o : Option Late) (P Q : Type 0) → (P → Q → told_alone late ≡ told_alone other) → Follows o (Some late) P → Follows o (Some other) Q → told_alone late ≡ told_alone other
+  step_once : (late other : Late) (o : Option Late) (P Q : Type 0) → (P → Q → told_alone late ≡ told_alone other)
+      → Follows o (Some late) P → Follows o (Some other) Q → told_alone late ≡ told_alone other
   step_once late other None P Q once p q = once p q
   step_once late other (Some told) P Q once p q = ap told_alone (some_is late told p ∙ sym (some_is other told q))
 
-  checked_once : RefusesNoPattern MayRefuse → (late other : Late) → IsPermitted MayRefuse late → IsPermitted MayRefuse other → (Heavy late → Heavy other → told_alone late ≡ told_alone other) → Checked late → Checked other → told_alone late ≡ told_alone other
+  checked_once : RefusesNoPattern MayRefuse → (late other : Late) → IsPermitted MayRefuse late
+      → IsPermitted MayRefuse other → (Heavy late → Heavy other → told_alone late ≡ told_alone other) → Checked late
+      → Checked other → told_alone late ≡ told_alone other
   checked_once off late other may might once (inl p) (inl q) =
       let same : p.violation ≡ q.violation = first_by-once MayRefuse off (T p.risen) (T q.risen) chosen p.violation q.violation (subst (IsPermitted MayRefuse) p.is may) (subst (IsPermitted MayRefuse) q.is might) p.first q.first in
       ap told_alone p.is ∙ ap (λ (v : Violation). Invalid v false) same ∙ sym (ap told_alone q.is)
-  checked_once off late other may might once (inl p) (inr q) = absurd (first_by-none MayRefuse off (T p.risen) chosen p.violation (subst (IsPermitted MayRefuse) p.is may) q.0 p.first)
-  checked_once off late other may might once (inr p) (inl q) = absurd (first_by-none MayRefuse off (T q.risen) chosen q.violation (subst (IsPermitted MayRefuse) q.is might) p.0 q.first)
+  checked_once off late other may might once (inl p) (inr q) =
+      absurd (first_by-none MayRefuse off (T p.risen) chosen p.violation (subst (IsPermitted MayRefuse) p.is may) q.0 p.first)
+  checked_once off late other may might once (inr p) (inl q) =
+      absurd (first_by-none MayRefuse off (T q.risen) chosen q.violation (subst (IsPermitted MayRefuse) q.is might) p.0 q.first)
   checked_once off late other may might once (inr p) (inr q) = once p.1 q.1
 
-  pub verdict-once : RefusesNoPattern MayRefuse → (late other : Late) → IsPermitted MayRefuse late → IsPermitted MayRefuse other → IsLate formats store history keys set late → IsLate formats store history keys set other → told_alone late ≡ told_alone other
+  pub verdict-once : RefusesNoPattern MayRefuse → (late other : Late) → IsPermitted MayRefuse late
+      → IsPermitted MayRefuse other → IsLate formats store history keys set late
+      → IsLate formats store history keys set other → told_alone late ≡ told_alone other
   verdict-once off late other may might =
       step_once late other (if_untouched set.touched set.aside) (Blocked late) (Blocked other)
       (step_once late other (conflict store history set) (Sized late) (Sized other)
@@ -109,7 +116,8 @@ module _ (MayRefuse : List ℕ → Type 0) (formats : Formats) (store : Store) (
   abbrev Has : (Late → Type 0) → Type 0
   Has P = ((late : Late) → P late → IsPermitted MayRefuse late → ⊥) → ⊥
 
-  step_some : (o : Option Late) (P : Late → Type 0) → ((told : Late) → o ≡ Some told → is_violation told ≡ false) → Has P → Has (λ late. Follows o (Some late) (P late))
+  step_some : (o : Option Late) (P : Late → Type 0) → ((told : Late) → o ≡ Some told → is_violation told ≡ false)
+      → Has P → Has (λ late. Follows o (Some late) (P late))
   step_some None P apart other off = other off
   step_some (Some told) P apart other off = off told refl (other_permitted MayRefuse told (apart told refl))
 

@@ -47,14 +47,16 @@ line_of_get faults.Memory = out_of_memory
 
 -- the answer to an action, by what it got
 abbrev pub AnswersGot : (List ℕ → Type 0) → List MountedFile → Name → Action → Result KeyMap GetFault → Answer → Type 0
-AnswersGot MayRefuse files name action (Ok keys) answer = AnswersStep MayRefuse files (parent_of name action) (step_of keys name action) answer
+AnswersGot MayRefuse files name action (Ok keys) answer =
+    AnswersStep MayRefuse files (parent_of name action) (step_of keys name action) answer
 AnswersGot MayRefuse files name action (Err fault) answer = answer ≡ refused 5 (line_of_get fault)
 
 -- `export` of keys under the names that lead to them from a name: their text in a format, or the whole name of the
 -- first that the format can't hold
 pub data AnswersText (name : Name) (kind : Kind) (keys : KeyMap) (answer : Answer) : Type 0 where
   Written : all.IsStorable kind keys → answer ≡ done (all.text kind keys) → AnswersText name kind keys answer
-  NotHeld : (key : Name) → all.BreaksAt kind keys key → answer ≡ refused 5 (not_storable name (joined name key)) → AnswersText name kind keys answer
+  NotHeld : (key : Name) → all.BreaksAt kind keys key → answer ≡ refused 5 (not_storable name (joined name key))
+      → AnswersText name kind keys answer
 
 -- `export`, by what it got: what a file at the name would hold of that
 abbrev pub AnswersBelow : Name → Kind → Result KeyMap GetFault → Answer → Type 0
@@ -75,7 +77,8 @@ mounts_told files = done (flat_map (λ file. line_of_mount file.mount) files)
 
 -- `validate`, by all keys: the lines of the violations at or below a name
 abbrev pub AnswersChecked : (List ℕ → Type 0) → Name → Result KeyMap GetFault → Answer → Type 0
-AnswersChecked MayRefuse name (Ok keys) answer = (violations : List Violation) × AreViolationsBy MayRefuse (is_within name) keys violations × (answer ≡ tells (checked violations))
+AnswersChecked MayRefuse name (Ok keys) answer =
+    (violations : List Violation) × AreViolationsBy MayRefuse (is_within name) keys violations × (answer ≡ tells (checked violations))
 AnswersChecked MayRefuse name (Err fault) answer = answer ≡ refused 5 (line_of_get fault)
 
 -- the answer to a question over mounted files
@@ -84,7 +87,8 @@ AnswersIn MayRefuse files Mounts answer = answer ≡ mounts_told files
 AnswersIn MayRefuse files (FileOf name) answer = IsSomeAnd (owner_in files name) (λ file. answer ≡ file_told file)
 AnswersIn MayRefuse files (TextOf name kind) answer = AnswersBelow name kind (got_alone files name) answer
 AnswersIn MayRefuse files (ViolationsOf name) answer = AnswersChecked MayRefuse name (got_alone files every_key) answer
-AnswersIn MayRefuse files (On name action) answer = AnswersGot MayRefuse files name action (got_alone files (parent_of name action)) answer
+AnswersIn MayRefuse files (On name action) answer =
+    AnswersGot MayRefuse files name action (got_alone files (parent_of name action)) answer
 
 -- the line of what refuses an opening
 abbrev pub line_of_opening : OpenRefusal → List ℕ
@@ -111,15 +115,19 @@ pub record AnswersOver (MayRefuse : List ℕ → Type 0) (question : Question) (
 -- `import`: the keys that some bytes hold as a file at a name would, take the place of all at or below it. Bytes that
 -- hold none are refused as such a file is, before the files are looked at
 pub data AnswersImport (MayRefuse : List ℕ → Type 0) (name : Name) (kind : Kind) (bytes : List ℕ) (bytes_of : List ℕ → List ℕ) (answer : Answer) : Type 0 where
-  Held : (keys : KeyMap) → Holds all.Reads name kind bytes keys → AnswersOver MayRefuse (On name (Replace keys)) bytes_of answer → AnswersImport MayRefuse name kind bytes bytes_of answer
-  Bad : (cause : Cause) → IsCause all.Reads all.IsBadAt name kind bytes cause → answer ≡ refused 5 (line_of_get (fault_of name cause)) → AnswersImport MayRefuse name kind bytes bytes_of answer
+  Held : (keys : KeyMap) → Holds all.Reads name kind bytes keys
+      → AnswersOver MayRefuse (On name (Replace keys)) bytes_of answer
+      → AnswersImport MayRefuse name kind bytes bytes_of answer
+  Bad : (cause : Cause) → IsCause all.Reads all.IsBadAt name kind bytes cause
+      → answer ≡ refused 5 (line_of_get (fault_of name cause)) → AnswersImport MayRefuse name kind bytes bytes_of answer
 
 -- the answer to a request
 abbrev pub AnswersRequest : (List ℕ → Type 0) → Request → List ℕ → (List ℕ → List ℕ) → Answer → Type 0
 AnswersRequest MayRefuse (Refuses status text) input bytes_of answer = answer ≡ refused status text
 AnswersRequest MayRefuse (Bars name) input bytes_of answer = answer ≡ refused 2 (not_writable name)
 AnswersRequest MayRefuse (Asks question) input bytes_of answer = AnswersOver MayRefuse question bytes_of answer
-AnswersRequest MayRefuse (Imports name kind) input bytes_of answer = AnswersImport MayRefuse name kind (taken input) bytes_of answer
+AnswersRequest MayRefuse (Imports name kind) input bytes_of answer =
+    AnswersImport MayRefuse name kind (taken input) bytes_of answer
 
 -- the answer to a command line with some input, where files gives each file name its bytes. It is one and the same but
 -- for the texts that may be refused as patterns (`MayRefuse`): a value that such a text is to check breaks the rule on

@@ -17,8 +17,10 @@ use Rattle.tool_single.specs.Outcome.{Gives}
 -- of an import: an input that holds no keys is refused as a file is, before the journal is looked at, and else the
 -- journal is
 pub data ToldOfImport (name : Name) (kind : Kind) (input line : List ℕ) (report : Report) : Type 0 where
-  Held : (keys : KeyMap) → Holds all.Reads name kind (taken input) keys → report ≡ warned 5 line → ToldOfImport name kind input line report
-  Bad : (cause : Cause) → IsCause all.Reads all.IsBadAt name kind (taken input) cause → report ≡ warned 5 (line_of_get (fault_of name cause)) → ToldOfImport name kind input line report
+  Held : (keys : KeyMap) → Holds all.Reads name kind (taken input) keys → report ≡ warned 5 line
+      → ToldOfImport name kind input line report
+  Bad : (cause : Cause) → IsCause all.Reads all.IsBadAt name kind (taken input) cause
+      → report ≡ warned 5 (line_of_get (fault_of name cause)) → ToldOfImport name kind input line report
 
 -- of a request: the journal, by this line, to each that asks the store for something
 abbrev pub TellsOfJournal : Request → (input line : List ℕ) → Report → Type 0
@@ -29,4 +31,5 @@ TellsOfJournal (Imports name kind) input line report = ToldOfImport name kind in
 
 -- a run that ends neither in want of memory nor in a fault ends so, where the journal is refused
 abbrev pub EndsByJournal : Request → (input line : List ℕ) → ℕ → Change → Change → Type 0
-EndsByJournal asked input line status out err = IsAnswered status → (report : Report) × TellsOfJournal asked input line report × Gives report status out err
+EndsByJournal asked input line status out err =
+    IsAnswered status → (report : Report) × TellsOfJournal asked input line report × Gives report status out err

@@ -24,7 +24,8 @@ pub record HasNothingToWrite (seen : Image) : Type 0 where
 -- those of the opening without or with all that is stored. Nothing is stored where a command stores nothing
 abbrev pub MayBeLeft : Image → Option (List FileText) → Image → Texts → Image → Type 0
 MayBeLeft files doubt opened [] image = HasOnly (IsEither files doubt) image
-MayBeLeft files doubt opened (text ∷ texts) image = HasOnly (IsEither files doubt) image ⊎ HasOnly (IsEither opened (Some (entry_of (text ∷ texts)))) image
+MayBeLeft files doubt opened (text ∷ texts) image =
+    HasOnly (IsEither files doubt) image ⊎ HasOnly (IsEither opened (Some (entry_of (text ∷ texts)))) image
 
 -- behind a command that gave its answer: all that it stored is there, and where it stored nothing the files are as they
 -- were found

@@ -32,9 +32,12 @@ EndsWithoutMemory status out err = status ≡ 70 → Gives (warned 70 out_of_mem
 
 -- which fault ended a run: the disk's, the input's or out's, of which err tells, or err's
 pub data FaultCause (disk_failed input_failed : Type 0) (status : ℕ) (out err : Change) : Type 0 where
-  OfDisk : disk_failed → Gives (warned 74 disk_fault) status out err → FaultCause disk_failed input_failed status out err
-  OfInput : input_failed → Gives (warned 74 read_fault) status out err → FaultCause disk_failed input_failed status out err
-  OfOut : Failed out → Gains err.held_before err.held_now (line write_fault) → FaultCause disk_failed input_failed status out err
+  OfDisk : disk_failed → Gives (warned 74 disk_fault) status out err
+      → FaultCause disk_failed input_failed status out err
+  OfInput : input_failed → Gives (warned 74 read_fault) status out err
+      → FaultCause disk_failed input_failed status out err
+  OfOut : Failed out → Gains err.held_before err.held_now (line write_fault)
+      → FaultCause disk_failed input_failed status out err
   OfErr : Failed err → FaultCause disk_failed input_failed status out err
 
 abbrev pub EndsInFault : Type 0 → Type 0 → ℕ → Change → Change → Type 0

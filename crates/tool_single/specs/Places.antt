@@ -42,7 +42,8 @@ pub record IsStrangeName (names : List (List ℕ)) (body : List ℕ) (at : ℕ) 
 pub data IsWrongListed (names : List (List ℕ)) (body : List ℕ) (at : ℕ) : Type 0 where
   LastOne : followed body ≡ false → at ≡ 0 → IsWrongListed names body at
   StrangeName : followed body ≡ true → IsStrangeName names (uncounted body) at → IsWrongListed names body at
-  WrongBody : followed body ≡ true → ((other : ℕ) → ¬ IsStrangeName names (uncounted body) other) → IsPlace (uncounted body) at → IsWrongListed names body at
+  WrongBody : followed body ≡ true → ((other : ℕ) → ¬ IsStrangeName names (uncounted body) other)
+      → IsPlace (uncounted body) at → IsWrongListed names body at
 
 -- the bytes of a body go wrong at this place
 abbrev pub IsWrongAt : Option (List (List ℕ)) → List ℕ → ℕ → Type 0
@@ -63,16 +64,20 @@ pub record IsInLimits (number place : ℕ) (tail : List ℕ) : Type 0 where
 -- one from the file's first byte
 pub data IsBrokenAt (header : Option (List (List ℕ))) (number place : ℕ) (tail : List ℕ) (at : ℕ) : Type 0 where
   TooMany : most_entries ≤ number → at ≡ (rule_of header).late place → IsBrokenAt header number place tail at
-  TooLate : last_place < place + head_size + size_of tail → at ≡ (rule_of header).late place → IsBrokenAt header number place tail at
-  WrongField : IsInLimits number place tail → (there : ℕ) → IsWrongAt header (body_of tail) there → at ≡ (rule_of header).told place there → IsBrokenAt header number place tail at
-  CutShort : IsInLimits number place tail → (files : List FileText) → IsBody header (body_of tail) files → length (body_of tail) ≢ size_of tail
+  TooLate : last_place < place + head_size + size_of tail → at ≡ (rule_of header).late place
+      → IsBrokenAt header number place tail at
+  WrongField : IsInLimits number place tail → (there : ℕ) → IsWrongAt header (body_of tail) there
+      → at ≡ (rule_of header).told place there → IsBrokenAt header number place tail at
+  CutShort : IsInLimits number place tail → (files : List FileText) → IsBody header (body_of tail) files
+      → length (body_of tail) ≢ size_of tail
       → at ≡ (rule_of header).told place (length (body_of tail)) → IsBrokenAt header number place tail at
 
 -- from a gate on: behind these open entries, each of which is whole and followed by the next, stands an open one that
 -- is broken so
 abbrev pub BreaksBehind : Option (List (List ℕ)) → ℕ → ℕ → List ℕ → List (List FileText) → ℕ → Type 0
 BreaksBehind header number place c [] at = IsOpenAt c × IsBrokenAt header number place (drop 1 c) at
-BreaksBehind header number place c (entry ∷ entries) at = IsOpenAt c × IsWhole (rule_of header) number place (drop 1 c) entry × (followed (body_of (drop 1 c)) ≡ true)
+BreaksBehind header number place c (entry ∷ entries) at =
+    IsOpenAt c × IsWhole (rule_of header) number place (drop 1 c) entry × (followed (body_of (drop 1 c)) ≡ true)
     × BreaksBehind header (number + 1) (place + head_size + size_of (drop 1 c)) (rest_of (drop 1 c)) entries at
 
 -- the first open entry of a list that isn't whole is broken so
@@ -94,10 +99,12 @@ pub record AreFirstNames (count : ℕ) (names : List (List ℕ)) : Type 0 where
 -- their front
 pub data IsWrongHeader (header : List ℕ) (at : ℕ) : Type 0 where
   NoCount : (1 ≤ slice_index header 0 → slice_index header 0 ≤ most_files → ⊥) → at ≡ 0 → IsWrongHeader header at
-  NoName : (count : ℕ) (names : List (List ℕ)) (rest : List ℕ) → AreFirstNames count names → length names < count → header ≡ (count ∷ flat_map sized_name names) ++ rest
+  NoName : (count : ℕ) (names : List (List ℕ)) (rest : List ℕ) → AreFirstNames count names → length names < count
+      → header ≡ (count ∷ flat_map sized_name names) ++ rest
       → ((name : List ℕ) → AreFirstNames count (names ++ name ∷ []) → ¬ IsFront (sized_name name) rest)
       → at ≡ length (count ∷ flat_map sized_name names) + passed 1 rest → IsWrongHeader header at
-  BytesLeft : (names : List (List ℕ)) (rest : List ℕ) → IsHeader names → rest ≢ [] → header ≡ spelled_header names ++ rest
+  BytesLeft : (names : List (List ℕ)) (rest : List ℕ) → IsHeader names → rest ≢ []
+      → header ≡ spelled_header names ++ rest
       → at ≡ length (spelled_header names) → IsWrongHeader header at
 
 -- ---- in a journal
@@ -106,14 +113,17 @@ pub data IsWrongHeader (header : List ℕ) (at : ℕ) : Type 0 where
 -- told where they do; or they are a header's, but fewer than the length, told at their end
 pub data IsHeadBadAt (c : List ℕ) (at : ℕ) : Type 0 where
   TooLong : longest_header < header_size c → at ≡ 2 → IsHeadBadAt c at
-  WrongHeader : header_size c ≤ longest_header → (there : ℕ) → IsWrongHeader (header_of c) there → at ≡ head_start + there → IsHeadBadAt c at
-  HeaderCut : header_size c ≤ longest_header → (names : List (List ℕ)) → IsHeader names → spelled_header names ≡ header_of c → length (header_of c) ≢ header_size c
+  WrongHeader : header_size c ≤ longest_header → (there : ℕ) → IsWrongHeader (header_of c) there
+      → at ≡ head_start + there → IsHeadBadAt c at
+  HeaderCut : header_size c ≤ longest_header → (names : List (List ℕ)) → IsHeader names
+      → spelled_header names ≡ header_of c → length (header_of c) ≢ header_size c
       → at ≡ head_start + length (header_of c) → IsHeadBadAt c at
 
 -- the header gate is open before this version, and the header isn't whole; or the list behind the header isn't
 pub data IsJournalBadAt (c : List ℕ) (at : ℕ) : Type 0 where
   OfHeader : IsHeaded c → version_of c ≡ version → IsHeadBadAt c at → IsJournalBadAt c at
-  OfList : (names : List (List ℕ)) → IsHeader names → (list : List ℕ) → c ≡ front names ++ list → IsListBadAt (Some names) list at → IsJournalBadAt c at
+  OfList : (names : List (List ℕ)) → IsHeader names → (list : List ℕ) → c ≡ front names ++ list
+      → IsListBadAt (Some names) list at → IsJournalBadAt c at
 
 -- the first open entry of `journal` that isn't whole, if there is one
 abbrev pub IsFormerBadAt : Image → ℕ → Type 0

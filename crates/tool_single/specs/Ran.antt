@@ -34,7 +34,8 @@ pub record Follows {D : Type 0} (g : Ghosts D) (files : Image) (doubt : Option (
   pub lasting : EveryImage (g.may_leave end) (MayRemain files doubt (opened_files (g.seen disk)) answer.stored)
   -- without a fault of the disk the files show what the answer stores, and no others change, whatever becomes of out
   -- and err
-  pub shown : ¬ HasRisen (g.faults disk) (g.faults end) → Shows answer.stored (opened_files (g.seen disk)) (g.seen disk) (g.seen end)
+  pub shown : ¬ HasRisen (g.faults disk) (g.faults end)
+      → Shows answer.stored (opened_files (g.seen disk)) (g.seen disk) (g.seen end)
   -- and the disk is calm again, for the next run
   pub calm : ¬ HasRisen (g.faults disk) (g.faults end) → StaysCalm g files doubt answer.stored disk end
 
@@ -52,9 +53,13 @@ pub record EndsWithout {D : Type 0} (g : Ghosts D) (files : Image) (doubt : Opti
   pub prefix : GainsFront out.held_before out.held_now []
   pub crash : LeavesOnly g disk end (HasOnly (IsEither files doubt))
   pub unserved : ¬ HasRisen (g.faults disk) (g.faults end) → serving.Unserved g files doubt disk end
-  pub why : ¬ HasRisen (g.faults disk) (g.faults end) → (status ≡ 70) ⊎ (((status ≡ 74) × Failed err) ⊎ ((status ≡ 74) × input_failed))
+  pub why : ¬ HasRisen (g.faults disk) (g.faults end)
+      → (status ≡ 70) ⊎ (((status ≡ 74) × Failed err) ⊎ ((status ≡ 74) × input_failed))
 
 pub data Ran {D : Type 0} (g : Ghosts D) (files : Image) (doubt : Option (List FileText)) (Answered : Answer → Type 0) (input_failed : Type 0) (disk end : D) (status : ℕ) (out err : Change) : Type 0 where
-  ByAnswer : Follows g files doubt Answered disk end status out err → Ran g files doubt Answered input_failed disk end status out err
-  NotStored : EndsUnstored g files doubt Answered disk end status out → Ran g files doubt Answered input_failed disk end status out err
-  Without : EndsWithout g files doubt input_failed disk end status out err → Ran g files doubt Answered input_failed disk end status out err
+  ByAnswer : Follows g files doubt Answered disk end status out err
+      → Ran g files doubt Answered input_failed disk end status out err
+  NotStored : EndsUnstored g files doubt Answered disk end status out
+      → Ran g files doubt Answered input_failed disk end status out err
+  Without : EndsWithout g files doubt input_failed disk end status out err
+      → Ran g files doubt Answered input_failed disk end status out err

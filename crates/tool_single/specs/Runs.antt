@@ -54,7 +54,8 @@ AnswersRun g run answer =
 pub record HasRan {D : Type 0} (g : Ghosts D) (run : OneRun D) : Type 0 where
   pub tells : g.tells run.found ≡ true
   pub goes : GoesOn g run.found run.left
-  pub ran : (files : Image) (doubt : Option (List FileText)) → IsCalm (g.seen run.found) (g.may_leave run.found) files doubt
+  pub ran : (files : Image) (doubt : Option (List FileText))
+      → IsCalm (g.seen run.found) (g.may_leave run.found) files doubt
       → Ran g files doubt (AnswersRun g run) (Unit {0}) run.found run.left run.status run.out run.err
 
 -- it gave its answer, and no crash cut it off
@@ -65,7 +66,8 @@ IsAcknowledged run = IsAnswered run.status × (run.ending ≢ CutOff)
 
 -- nothing is pending on a disk but what is told by some files and one entry in doubt
 abbrev pub IsAtRest : {D : Type 0} → Ghosts D → D → Type 0
-IsAtRest g disk = (files : Image) × (doubt : Option (List FileText)) × IsCalm (g.seen disk) (g.may_leave disk) files doubt
+IsAtRest g disk =
+    (files : Image) × (doubt : Option (List FileText)) × IsCalm (g.seen disk) (g.may_leave disk) files doubt
 
 -- a machine that starts again finds one image, and nothing pending
 abbrev pub HasOneImage : {D : Type 0} → Ghosts D → D → Type 0
@@ -86,7 +88,8 @@ Finds g run next CutOff = HasOneImage g next × g.left_since run.left (g.moment 
 -- one run after the other, from the first disk to the last
 abbrev pub AreRuns : {D : Type 0} → Ghosts D → D → List (OneRun D) → D → Type 0
 AreRuns g first [] last = (first ≡ last) × (g.tells last ≡ true)
-AreRuns {D} g first (run ∷ runs) last = (run.found ≡ first) × HasRan g run × ((next : D) × Finds g run next run.ending × AreRuns g next runs last)
+AreRuns {D} g first (run ∷ runs) last =
+    (run.found ≡ first) × HasRan g run × ((next : D) × Finds g run next run.ending × AreRuns g next runs last)
 
 -- ---- their one history
 
@@ -114,7 +117,8 @@ pub record HasStored {D : Type 0} (g : Ghosts D) (files : Image) (run : OneRun D
 -- end all of it is there
 abbrev pub IsHistory : {D : Type 0} → Ghosts D → Image → List (OneRun D) → List Texts → D → Type 0
 IsHistory g files [] [] last = SameFiles (opened_files (g.seen last)) files
-IsHistory g files (run ∷ runs) (texts ∷ stored) last = HasStored g files run texts × IsHistory g (with_stored texts files) runs stored last
+IsHistory g files (run ∷ runs) (texts ∷ stored) last =
+    HasStored g files run texts × IsHistory g (with_stored texts files) runs stored last
 IsHistory g files (run ∷ runs) [] last = ⊥
 IsHistory g files [] (texts ∷ stored) last = ⊥
 
@@ -137,7 +141,8 @@ found_next (run ∷ runs) last = run.found
 -- no crash that cut a run off left a gate of the journal amid its byte
 abbrev pub AreDecided : {D : Type 0} → Ghosts D → List (OneRun D) → D → Type 0
 AreDecided g [] last = Unit {0}
-AreDecided g (run ∷ runs) last = (run.ending ≡ CutOff → IsDecided (g.seen (found_next runs last))) × AreDecided g runs last
+AreDecided g (run ∷ runs) last =
+    (run.ending ≡ CutOff → IsDecided (g.seen (found_next runs last))) × AreDecided g runs last
 
 -- ---- and where a crash tore a gate
 

@@ -39,30 +39,39 @@ pub record RunsOne {S K E D P : Type 0} (s : sources.Ghosts S) (k : sinks.Ghosts
   -- of memory or a fault, a crash leaves the files as they were found. The input matters to an import alone. Of the
   -- answers that there may be, one that goes by a refused pattern is taken only where the matcher's count of refusals
   -- rose, however the run ends
-  pub ran : d.tells disk ≡ true → (files : Image) (doubt : Option (List FileText)) → IsCalm (d.seen disk) (d.may_leave disk) files doubt
+  pub ran : d.tells disk ≡ true → (files : Image) (doubt : Option (List FileText))
+      → IsCalm (d.seen disk) (d.may_leave disk) files doubt
       → (given : List ℕ) → IsInput (request line) (s.left source) given
       → Ran d files doubt (Answers (λ _. HasRisen (p.refusals patterns) (p.refusals patterns_now)) line given (opened_files (d.seen disk))) (LosesInput (FailsToRead (request line) (s.faults source) (s.faults source_now)) disk end patterns patterns_now) disk end status (change_of k out out_now) (change_of e err err_now)
   -- Without a fault of the disk it is calm behind the call, for the next one, with the files that the answer leaves and
   -- nothing in doubt that wasn't before. Where an answer was worked out, `ran` says the same of what that answer stores
-  pub calm : d.tells disk ≡ true → (files : Image) (doubt : Option (List FileText)) → IsCalm (d.seen disk) (d.may_leave disk) files doubt → ¬ HasRisen (d.faults disk) (d.faults end) → (stored : Texts) × StaysCalm d files doubt stored disk end
+  pub calm : d.tells disk ≡ true → (files : Image) (doubt : Option (List FileText))
+      → IsCalm (d.seen disk) (d.may_leave disk) files doubt → ¬ HasRisen (d.faults disk) (d.faults end)
+      → (stored : Texts) × StaysCalm d files doubt stored disk end
   -- Words that ask for nothing decide alone, whatever the disk does, and leave the disk and the matcher alone, and so
   -- does an import whose input holds no keys
   pub words : EndsByWords (request line) status (change_of k out out_now) (change_of e err err_now)
-  pub unasked : (given : List ℕ) → IsInput (request line) (s.left source) given → (AsksStoreWith (request line) given → ⊥) → (end ≡ disk) × (patterns_now ≡ patterns)
+  pub unasked : (given : List ℕ) → IsInput (request line) (s.left source) given
+      → (AsksStoreWith (request line) given → ⊥) → (end ≡ disk) × (patterns_now ≡ patterns)
   -- A journal with an open gate, and no whole head or no whole body of an entry behind it, is told in the place of an
   -- answer, by its place, and one of a version that isn't known by that; an import whose input holds no keys is told so
   -- before that. No crash of this store leaves such a journal, and so no calm disk has one
-  pub broken : d.tells disk ≡ true → (at : ℕ) → bad_place (d.seen disk) ≡ Some at → (given : List ℕ) → IsInput (request line) (s.left source) given
+  pub broken : d.tells disk ≡ true → (at : ℕ) → bad_place (d.seen disk) ≡ Some at → (given : List ℕ)
+      → IsInput (request line) (s.left source) given
       → EndsByJournal (request line) given (bad_journal at) status (change_of k out out_now) (change_of e err err_now)
-  pub unknown : d.tells disk ≡ true → (version : ℕ) → unknown_version (d.seen disk) ≡ Some version → (given : List ℕ) → IsInput (request line) (s.left source) given
+  pub unknown : d.tells disk ≡ true → (version : ℕ) → unknown_version (d.seen disk) ≡ Some version → (given : List ℕ)
+      → IsInput (request line) (s.left source) given
       → EndsByJournal (request line) given (unknown_journal version) status (change_of k out out_now) (change_of e err err_now)
   -- However the run ends, the disk is only read then, where there is no former journal, or where it is that one which
   -- isn't whole;
-  pub broken_stays : d.tells disk ≡ true → (fault : JournalFault) → found_in (d.seen disk) ≡ Err fault → IsKept (d.seen disk) → OnlyReads d disk end
+  pub broken_stays : d.tells disk ≡ true → (fault : JournalFault) → found_in (d.seen disk) ≡ Err fault
+      → IsKept (d.seen disk) → OnlyReads d disk end
   -- and else a run that tells it has retired the former journal, and brought its entries into their files, and changed
   -- nothing else
-  pub broken_kept : d.tells disk ≡ true → (fault : JournalFault) → found_in (d.seen disk) ≡ Err fault → ¬ IsKept (d.seen disk)
-      → (given : List ℕ) → IsInput (request line) (s.left source) given → AsksStoreWith (request line) given → IsAnswered status → LeavesRetired d disk end
+  pub broken_kept : d.tells disk ≡ true → (fault : JournalFault) → found_in (d.seen disk) ≡ Err fault
+      → ¬ IsKept (d.seen disk)
+      → (given : List ℕ) → IsInput (request line) (s.left source) given → AsksStoreWith (request line) given
+      → IsAnswered status → LeavesRetired d disk end
   -- Want of memory puts nothing on out and its line on err
   pub memory : EndsWithoutMemory status (change_of k out out_now) (change_of e err err_now)
   -- A fault has its cause in this call, and err tells which where err itself didn't fail: the disk's only where the
@@ -70,14 +79,20 @@ pub record RunsOne {S K E D P : Type 0} (s : sources.Ghosts S) (k : sinks.Ghosts
   pub fault : EndsInFault (HasRisen (d.faults disk) (d.faults end) × HasAsked s (request line) source source_now)
       (LosesInput (FailsToRead (request line) (s.faults source) (s.faults source_now)) disk end patterns patterns_now) status (change_of k out out_now) (change_of e err err_now)
   -- So without a fault the run ends with the answer's status, or in want of memory
-  pub complete : (HasRisen (d.faults disk) (d.faults end) → ⊥) → (FailsToRead (request line) (s.faults source) (s.faults source_now) → ⊥) → (HasRisen (k.faults out) (k.faults out_now) → ⊥) → (HasRisen (e.faults err) (e.faults err_now) → ⊥) → status ≢ 74
+  pub complete : (HasRisen (d.faults disk) (d.faults end) → ⊥)
+      → (FailsToRead (request line) (s.faults source) (s.faults source_now) → ⊥)
+      → (HasRisen (k.faults out) (k.faults out_now) → ⊥) → (HasRisen (e.faults err) (e.faults err_now) → ⊥)
+      → status ≢ 74
   -- Want of memory never comes behind a commit: at every moment since the call began a crash leaves the files as they
   -- were found, and where the opening has nothing to write, the disk is only read
-  pub unwritten : d.tells disk ≡ true → (files : Image) (doubt : Option (List FileText)) → IsCalm (d.seen disk) (d.may_leave disk) files doubt → status ≡ 70 → Unserved d files doubt disk end
+  pub unwritten : d.tells disk ≡ true → (files : Image) (doubt : Option (List FileText))
+      → IsCalm (d.seen disk) (d.may_leave disk) files doubt → status ≡ 70 → Unserved d files doubt disk end
   -- Where the opening has nothing to write, since no entry is open and there is no former journal, and the disk need
   -- not be calm for that, nothing is written where no answer stores anything, whatever fails;
-  pub untouched : d.tells disk ≡ true → HasNothingToWrite (d.seen disk) → (given : List ℕ) → IsInput (request line) (s.left source) given
-      → StoresNothing (Answers (λ _. HasRisen (p.refusals patterns) (p.refusals patterns_now)) line given (d.seen disk)) → OnlyReads d disk end
+  pub untouched : d.tells disk ≡ true → HasNothingToWrite (d.seen disk) → (given : List ℕ)
+      → IsInput (request line) (s.left source) given
+      → StoresNothing (Answers (λ _. HasRisen (p.refusals patterns) (p.refusals patterns_now)) line given (d.seen disk))
+      → OnlyReads d disk end
   -- nor does a run write that ends in want of memory or is refused, one that the journal refuses too: that ends neither
   -- as a command that was done nor in a fault
   pub unstored : d.tells disk ≡ true → HasNothingToWrite (d.seen disk) → status ≢ 0 → status ≢ 74 → OnlyReads d disk end

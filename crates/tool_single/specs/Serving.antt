@@ -45,7 +45,8 @@ use Rattle.tool_single.specs.declared.answers.Stop.TheVariants as stops
 
 -- a store was opened, and nothing committed
 pub record IsOpen {D F P : Type 0} (plan : Plan F) (core : Core D P) : Type 0 where
-  pub world : (procs : ℕ → KeyMap) → StandsIn formats (store_of plan.mounted procs) core (λ r. no_record) (λ p. None) first_world
+  pub world : (procs : ℕ → KeyMap)
+      → StandsIn formats (store_of plan.mounted procs) core (λ r. no_record) (λ p. None) first_world
 
 -- and the handle of a command got a parent
 pub record HasFetched (files : List MountedFile) (parent : Name) (rec : Record) : Type 0 where
@@ -81,7 +82,8 @@ pub record Serves {D P : Type 0} (g : Ghosts D) (mounted : List MountedFile) (An
   pub answer : Answer
   pub answers : Answered answer
   pub told : answer.report ≡ report
-  pub committed : (opened : D) (run : Run) → run.names ≡ table_files (store_alone mounted) → IsStore g opened before.journal run → IsStore g opened after.journal (run_with run answer.stored)
+  pub committed : (opened : D) (run : Run) → run.names ≡ table_files (store_alone mounted)
+      → IsStore g opened before.journal run → IsStore g opened after.journal (run_with run answer.stored)
   pub kept : answer.stored ≡ [] → IsUnwritten before after
   pub done : answer.stored ≢ [] → report.status ≡ 0
 
@@ -96,7 +98,8 @@ pub record FailsToStore {D P : Type 0} (g : Ghosts D) (mounted : List MountedFil
   pub answer : Answer
   pub answers : Answered answer
   pub some : answer.stored ≢ []
-  pub begun : (opened : D) (run : Run) → run.names ≡ table_files (store_alone mounted) → IsStore g opened before.journal run → BeginsEntry g opened run (entry_of answer.stored) after.journal
+  pub begun : (opened : D) (run : Run) → run.names ≡ table_files (store_alone mounted)
+      → IsStore g opened before.journal run → BeginsEntry g opened run (entry_of answer.stored) after.journal
   pub wrote : after.wrote ≡ true
 
 abbrev pub Serving : {D P : Type 0} → Ghosts D → List MountedFile → (Answer → Type 0) → Result code.Report Stop → Core D P → Core D P → Type 0
@@ -132,7 +135,8 @@ pub record Served {D : Type 0} (g : Ghosts D) (files : Image) (doubt : Option (L
   pub told : answer.report ≡ report
   pub crash : LeavesOnly g before after (MayBeLeft files doubt (opened_files (g.seen before)) answer.stored)
   pub lasting : EveryImage (g.may_leave after) (MayRemain files doubt (opened_files (g.seen before)) answer.stored)
-  pub shown : ¬ HasRisen (g.faults before) (g.faults after) → Shows answer.stored (opened_files (g.seen before)) (g.seen before) (g.seen after)
+  pub shown : ¬ HasRisen (g.faults before) (g.faults after)
+      → Shows answer.stored (opened_files (g.seen before)) (g.seen before) (g.seen after)
   pub calm : ¬ HasRisen (g.faults before) (g.faults after) → StaysCalm g files doubt answer.stored before after
 
 -- nothing was stored: a crash amid the call leaves the files as they were found, and where the opening had nothing to
@@ -141,7 +145,8 @@ pub record Served {D : Type 0} (g : Ghosts D) (files : Image) (doubt : Option (L
 pub record Unserved {D : Type 0} (g : Ghosts D) (files : Image) (doubt : Option (List FileText)) (before after : D) : Type 0 where
   pub crash : LeavesOnly g before after (HasOnly (IsEither files doubt))
   pub untouched : HasNothingToWrite (g.seen before) → OnlyReads g before after
-  pub shown : ¬ HasRisen (g.faults before) (g.faults after) → Shows [] (opened_files (g.seen before)) (g.seen before) (g.seen after)
+  pub shown : ¬ HasRisen (g.faults before) (g.faults after)
+      → Shows [] (opened_files (g.seen before)) (g.seen before) (g.seen after)
   pub calm : ¬ HasRisen (g.faults before) (g.faults after) → StaysCalm g files doubt [] before after
 
 -- the disk failed before what an answer stores was committed

@@ -48,12 +48,18 @@ abbrev pub IsJudgement : (List ℕ → Type 0) → Store → KeyMap → List ℕ
 IsJudgement MayRefuse store keys out (Same aside) answer = answer ≡ done out
 IsJudgement MayRefuse store keys out (Conflict mount by) answer = ⊥
 IsJudgement MayRefuse store keys out (TooLarge mount size) answer = ⊥
-IsJudgement MayRefuse store keys out (Invalid violation risen) answer = (T risen → MayRefuse violation.given) × (answer ≡ refused 5 (invalid violation))
+IsJudgement MayRefuse store keys out (Invalid violation risen) answer =
+    (T risen → MayRefuse violation.given) × (answer ≡ refused 5 (invalid violation))
 IsJudgement MayRefuse store keys out (DatabaseFull weight) answer = answer ≡ refused 5 (database_full weight)
 IsJudgement MayRefuse store keys out (HistoryFull weight) answer = answer ≡ refused 5 (history_full weight)
 IsJudgement MayRefuse store keys out (Commits commit aside) answer = answer ≡ stores (stored_by store keys commit) out
 
 -- the answer where keys are set at a parent whose keys were got
 pub data AnswersSet (MayRefuse : List ℕ → Type 0) (files : List MountedFile) (parent : Name) (keys : KeyMap) (out : List ℕ) (answer : Answer) : Type 0 where
-  Refused : (why : Early) → IsEarly formats (store_alone files) (set_alone (store_alone files) parent keys) (Some why) → IsSomeAnd (fault_of (store_alone files).mounts why) (λ fault. IsRefusal fault answer) → AnswersSet MayRefuse files parent keys out answer
-  Judged : IsEarly formats (store_alone files) (set_alone (store_alone files) parent keys) None → (late : Late) → IsLate formats (store_alone files) [] (store_alone files).start (set_alone (store_alone files) parent keys) late → IsJudgement MayRefuse (store_alone files) (store_alone files).start out late answer → AnswersSet MayRefuse files parent keys out answer
+  Refused : (why : Early) → IsEarly formats (store_alone files) (set_alone (store_alone files) parent keys) (Some why)
+      → IsSomeAnd (fault_of (store_alone files).mounts why) (λ fault. IsRefusal fault answer)
+      → AnswersSet MayRefuse files parent keys out answer
+  Judged : IsEarly formats (store_alone files) (set_alone (store_alone files) parent keys) None → (late : Late)
+      → IsLate formats (store_alone files) [] (store_alone files).start (set_alone (store_alone files) parent keys) late
+      → IsJudgement MayRefuse (store_alone files) (store_alone files).start out late answer
+      → AnswersSet MayRefuse files parent keys out answer

@@ -58,7 +58,8 @@ pub fn answer_in<D: Disk, P: Patterns + Drop>(
     requires open { IsOpen plan.now core.old }
     ensures serving { Serving D.Disk plan.now.mounted (AnswersIn (MayRefuse result (P.refusals core.old.patterns) (P.refusals core.new.patterns)) plan.now.mounted (question_of question.entry)) result core.old core.new }
     ensures status { IfOk result (λ report. IsStatusOf (question_of question.entry) report.status) }
-    ensures cause { result ≡ Err Stop.DiskFault → HasRisen (D.faults core.old.journal.disk) (D.faults core.new.journal.disk) }
+    ensures cause { result ≡ Err Stop.DiskFault
+        → HasRisen (D.faults core.old.journal.disk) (D.faults core.new.journal.disk) }
     ensures goes { GoesOn D.Disk core.old.journal.disk core.new.journal.disk }
     ensures later { P.refusals core.old.patterns ≤ P.refusals core.new.patterns }
 {
@@ -228,7 +229,8 @@ fn act<D: Disk, P: Patterns + Drop>(
     requires open { IsOpen plan.now core.old }
     ensures serving { Serving D.Disk plan.now.mounted (AnswersGot (MayRefuse result (P.refusals core.old.patterns) (P.refusals core.new.patterns)) plan.now.mounted name.now (action_of action.entry) (got_alone plan.now.mounted (parent_of name.now (action_of action.entry)))) result core.old core.new }
     ensures status { IfOk result (λ report. IsEnd (row_of name.now (action_of action.entry)).statuses report.status) }
-    ensures cause { result ≡ Err Stop.DiskFault → HasRisen (D.faults core.old.journal.disk) (D.faults core.new.journal.disk) }
+    ensures cause { result ≡ Err Stop.DiskFault
+        → HasRisen (D.faults core.old.journal.disk) (D.faults core.new.journal.disk) }
     ensures goes { GoesOn D.Disk core.old.journal.disk core.new.journal.disk }
     ensures later { P.refusals core.old.patterns ≤ P.refusals core.new.patterns }
 {
@@ -305,7 +307,8 @@ fn take_step<D: Disk, P: Patterns + Drop>(
     requires fetched { HasFetched plan.now.mounted parent.now rec.old }
     ensures serving { Serving D.Disk plan.now.mounted (AnswersStep (MayRefuse result (P.refusals core.old.patterns) (P.refusals core.new.patterns)) plan.now.mounted parent.now (seen_step step)) result core.old core.new }
     ensures status { (own : List ℕ) → TellsEnd own (seen_step step) → IfOk result (λ report. IsEnd own report.status) }
-    ensures cause { result ≡ Err Stop.DiskFault → HasRisen (D.faults core.old.journal.disk) (D.faults core.new.journal.disk) }
+    ensures cause { result ≡ Err Stop.DiskFault
+        → HasRisen (D.faults core.old.journal.disk) (D.faults core.new.journal.disk) }
     ensures goes { GoesOn D.Disk core.old.journal.disk core.new.journal.disk }
     ensures later { P.refusals core.old.patterns ≤ P.refusals core.new.patterns }
 {

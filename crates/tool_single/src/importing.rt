@@ -60,9 +60,11 @@ fn take_keys<S: Source>(
     kind: Kind,
     input: &mut S,
 ) -> Result<Holding, Stop>
-    ensures told { (bytes : List ℕ) → S.left input.old ≡ Some bytes → IfOk result (IsHolding Reads IsBadAt name.now kind (taken bytes)) }
+    ensures told { (bytes : List ℕ) → S.left input.old ≡ Some bytes
+        → IfOk result (IsHolding Reads IsBadAt name.now kind (taken bytes)) }
     ensures front { (bytes : List ℕ) → S.left input.old ≡ Some bytes → TakesFront most_taken bytes (S.left input.new) }
-    ensures all { (bytes : List ℕ) → S.left input.old ≡ Some bytes → OnOk result (TakesAll most_taken bytes (S.left input.new)) }
+    ensures all { (bytes : List ℕ) → S.left input.old ≡ Some bytes
+        → OnOk result (TakesAll most_taken bytes (S.left input.new)) }
     ensures read { result ≡ Err Stop.ReadFault → HasRisen (S.faults input.old) (S.faults input.new) }
     ensures own { result ≢ Err Stop.DiskFault }
     ensures later { S.faults input.old ≤ S.faults input.new }

@@ -38,23 +38,28 @@ pub use work::without_store;
 /// it is none. That is the answer which a run tells by which the matcher's count of refusals didn't rise. Where it
 /// rose, a run tells one of those that there are if besides the texts that are no patterns others may be refused.
 pub fn words_have_one_answer()
-    ensures one { (words : List (List ℕ)) (input : List ℕ) (files : List ℕ → List ℕ) (a b : Answer) → Answers IsNoPattern words input files a → Answers IsNoPattern words input files b → a ≡ b }
-    ensures told { (before now : ℕ) → (HasRisen before now → ⊥) → (words : List (List ℕ)) (input : List ℕ) (files : List ℕ → List ℕ) (a : Answer)
+    ensures one { (words : List (List ℕ)) (input : List ℕ) (files : List ℕ → List ℕ) (a b : Answer)
+        → Answers IsNoPattern words input files a → Answers IsNoPattern words input files b → a ≡ b }
+    ensures told { (before now : ℕ) → (HasRisen before now → ⊥)
+        → (words : List (List ℕ)) (input : List ℕ) (files : List ℕ → List ℕ) (a : Answer)
         → Answers (λ _. HasRisen before now) words input files a → Answers IsNoPattern words input files a }
     ensures among { (before now : ℕ) (words : List (List ℕ)) (input : List ℕ) (files : List ℕ → List ℕ) (a : Answer)
-        → Answers (λ _. HasRisen before now) words input files a → Answers (MayBeRefused (HasRisen before now)) words input files a }
+        → Answers (λ _. HasRisen before now) words input files a
+        → Answers (MayBeRefused (HasRisen before now)) words input files a }
 {}
 
 /// A command line is never without an answer over an input and files, whatever its words and the bytes of the files: no
 /// pattern need be refused for that.
 pub fn words_have_an_answer()
-    ensures { (words : List (List ℕ)) (input : List ℕ) (files : List ℕ → List ℕ) → ¬ ((answer : Answer) → ¬ Answers IsNoPattern words input files answer) }
+    ensures { (words : List (List ℕ)) (input : List ℕ) (files : List ℕ → List ℕ)
+        → ¬ ((answer : Answer) → ¬ Answers IsNoPattern words input files answer) }
 {}
 
 /// What a command line stores is one commit, which is legal on what the files mean: of mounts that aren't bad, within
 /// the limits, and by the rules.
 pub fn what_is_stored_is_one_legal_commit()
-    ensures { (words : List (List ℕ)) (input : List ℕ) (files : List ℕ → List ℕ) (answer : Answer) → Answers (λ _. Unit {0}) words input files answer → answer.stored ≢ [] → IsOneCommit files answer.stored }
+    ensures { (words : List (List ℕ)) (input : List ℕ) (files : List ℕ → List ℕ) (answer : Answer)
+        → Answers (λ _. Unit {0}) words input files answer → answer.stored ≢ [] → IsOneCommit files answer.stored }
 {}
 
 /// The place that `run` tells of a broken journal of bytes: behind open entries that are whole, each followed by the
@@ -64,13 +69,17 @@ pub fn what_is_stored_is_one_legal_commit()
 /// header that are fewer than the length at their end; and at no other place. In `journal` a place counts in the body,
 /// and in `journal2` from the file's first byte.
 pub fn a_broken_journal_is_told_by_its_place()
-    ensures told { (seen : Image) (at : ℕ) → All (λ b. b < 256) (seen journal_name) → All (λ b. b < 256) (seen journal2_name) → bad_place seen ≡ Some at → IsBadAt seen at }
-    ensures alone { (seen : Image) (at : ℕ) → All (λ b. b < 256) (seen journal_name) → All (λ b. b < 256) (seen journal2_name) → IsBadAt seen at → bad_place seen ≡ Some at }
+    ensures told { (seen : Image) (at : ℕ) → All (λ b. b < 256) (seen journal_name)
+        → All (λ b. b < 256) (seen journal2_name) → bad_place seen ≡ Some at → IsBadAt seen at }
+    ensures alone { (seen : Image) (at : ℕ) → All (λ b. b < 256) (seen journal_name)
+        → All (λ b. b < 256) (seen journal2_name) → IsBadAt seen at → bad_place seen ≡ Some at }
 {}
 
 /// The version that `run` tells of a journal that this program doesn't know: the header gate of `journal2` is open
 /// before it, and `journal` is whole.
 pub fn an_unknown_journal_is_told_by_its_version()
-    ensures told { (seen : Image) (version : ℕ) → All (λ b. b < 256) (seen journal_name) → unknown_version seen ≡ Some version → HasOtherVersion seen version }
-    ensures alone { (seen : Image) (version : ℕ) → All (λ b. b < 256) (seen journal_name) → HasOtherVersion seen version → unknown_version seen ≡ Some version }
+    ensures told { (seen : Image) (version : ℕ) → All (λ b. b < 256) (seen journal_name)
+        → unknown_version seen ≡ Some version → HasOtherVersion seen version }
+    ensures alone { (seen : Image) (version : ℕ) → All (λ b. b < 256) (seen journal_name) → HasOtherVersion seen version
+        → unknown_version seen ≡ Some version }
 {}

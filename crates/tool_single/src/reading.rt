@@ -19,7 +19,8 @@ const MOST_TAKEN: usize = LONGEST_FILE as usize + 1;
 pub fn read_input<S: Source>(alloc: Global, input: &mut S) -> Result<FileRead, Stop>
     ensures told { (bytes : List ℕ) → S.left input.old ≡ Some bytes → IfOk result (IsWhole (taken bytes)) }
     ensures front { (bytes : List ℕ) → S.left input.old ≡ Some bytes → TakesFront most_taken bytes (S.left input.new) }
-    ensures all { (bytes : List ℕ) → S.left input.old ≡ Some bytes → OnOk result (TakesAll most_taken bytes (S.left input.new)) }
+    ensures all { (bytes : List ℕ) → S.left input.old ≡ Some bytes
+        → OnOk result (TakesAll most_taken bytes (S.left input.new)) }
     ensures cause { result ≡ Err Stop.ReadFault → HasRisen (S.faults input.old) (S.faults input.new) }
     ensures own { result ≢ Err Stop.DiskFault }
     ensures later { S.faults input.old ≤ S.faults input.new }
@@ -35,10 +36,12 @@ pub fn read_input<S: Source>(alloc: Global, input: &mut S) -> Result<FileRead, S
 
 /// Takes the input to its end, or to so many bytes.
 pub fn take_all<S: Source>(alloc: Global, input: &mut S, most: usize) -> Result<Vec<u8>, Stop>
-    ensures taken { (bytes : List ℕ) → S.left input.old ≡ Some bytes → IfOk result (λ given. given.items ≡ take most bytes) }
+    ensures taken { (bytes : List ℕ) → S.left input.old ≡ Some bytes
+        → IfOk result (λ given. given.items ≡ take most bytes) }
     ensures few { IfOk result (λ given. length given.items ≤ most) }
     ensures front { (bytes : List ℕ) → S.left input.old ≡ Some bytes → TakesFront most bytes (S.left input.new) }
-    ensures all { (bytes : List ℕ) → S.left input.old ≡ Some bytes → OnOk result (TakesAll most bytes (S.left input.new)) }
+    ensures all { (bytes : List ℕ) → S.left input.old ≡ Some bytes
+        → OnOk result (TakesAll most bytes (S.left input.new)) }
     ensures cause { result ≡ Err Stop.ReadFault → HasRisen (S.faults input.old) (S.faults input.new) }
     ensures own { result ≢ Err Stop.DiskFault }
     ensures later { S.faults input.old ≤ S.faults input.new }
@@ -62,8 +65,10 @@ fn take_piece<S: Source>(
     requires { length bytes.old.items < most }
     ensures count { IfOk result (λ n. length bytes.new.items ≡ length bytes.old.items + n) }
     ensures few { OnOk result (length bytes.new.items ≤ most) }
-    ensures moved { (left : List ℕ) → S.left input.old ≡ Some left → IfOk result (λ n. TakesPiece left bytes.old.items bytes.new.items n (S.left input.new)) }
-    ensures front { (left : List ℕ) → S.left input.old ≡ Some left → TakesSome most (length bytes.old.items) left (S.left input.new) }
+    ensures moved { (left : List ℕ) → S.left input.old ≡ Some left
+        → IfOk result (λ n. TakesPiece left bytes.old.items bytes.new.items n (S.left input.new)) }
+    ensures front { (left : List ℕ) → S.left input.old ≡ Some left
+        → TakesSome most (length bytes.old.items) left (S.left input.new) }
     ensures cause { result ≡ Err Stop.ReadFault → HasRisen (S.faults input.old) (S.faults input.new) }
     ensures own { result ≢ Err Stop.DiskFault }
     ensures later { S.faults input.old ≤ S.faults input.new }

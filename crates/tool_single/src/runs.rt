@@ -27,7 +27,8 @@ pub fn one_run<S: Source, K: Sink, E: Sink, D: Disk, P: Patterns + Drop>(
     disk: D,
     patterns: P,
 ) -> (Status, D, P)
-    ensures { D.tells disk ≡ true → (given : List ℕ) (ending : Ending) → IsInput (request words.now) (S.left input.old) given
+    ensures { D.tells disk ≡ true → (given : List ℕ) (ending : Ending)
+        → IsInput (request words.now) (S.left input.old) given
         → HasRan D.Disk (record {
           words = words.now;
           input = given;
@@ -50,11 +51,14 @@ pub fn one_run<S: Source, K: Sink, E: Sink, D: Disk, P: Patterns + Drop>(
 /// acknowledged has stored all that its answer stores; any other has stored all of it, or nothing. The run of a batch
 /// is none of these, since it may store many commits. Nothing runs here: the function stands for its contract.
 pub fn runs_have_one_history<D: Disk>(disk: &D)
-    ensures one { (files : Image) (runs : List (OneRun D)) (last : D) → IsCalm (D.seen disk.now) (D.may_leave disk.now) files None
-        → AreRuns D.Disk disk.now runs last → AreDecided D.Disk runs last → (stored : List Texts) × IsHistory D.Disk files runs stored last }
+    ensures one { (files : Image) (runs : List (OneRun D)) (last : D)
+        → IsCalm (D.seen disk.now) (D.may_leave disk.now) files None
+        → AreRuns D.Disk disk.now runs last → AreDecided D.Disk runs last
+        → (stored : List Texts) × IsHistory D.Disk files runs stored last }
     // A crash may tear a gate of the journal, so that it is neither closed nor open. Then what one run that was cut off
     // stores is in doubt: the runs behind it find it whole or not at all, until one stores something, and nothing else
     // is in doubt.
     ensures torn { (files : Image) (doubt : Option (List Item)) (runs : List (OneRun D)) (last : D)
-        → IsCalm (D.seen disk.now) (D.may_leave disk.now) files doubt → AreRuns D.Disk disk.now runs last → AreFound D.Disk files doubt runs last }
+        → IsCalm (D.seen disk.now) (D.may_leave disk.now) files doubt → AreRuns D.Disk disk.now runs last
+        → AreFound D.Disk files doubt runs last }
 {}

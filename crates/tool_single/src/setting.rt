@@ -45,7 +45,8 @@ pub fn set_keys<D: Disk, P: Patterns + Drop>(
     requires fetched { HasFetched plan.now.mounted parent.now rec.old }
     ensures serving { Serving D.Disk plan.now.mounted (AnswersSet (MayRefuse result (P.refusals core.old.patterns) (P.refusals core.new.patterns)) plan.now.mounted parent.now keys.now (string_bytes out)) result core.old core.new }
     ensures status { (own : List ℕ) → IfOk result (λ report. IsEnd own report.status) }
-    ensures cause { result ≡ Err Stop.DiskFault → HasRisen (D.faults core.old.journal.disk) (D.faults core.new.journal.disk) }
+    ensures cause { result ≡ Err Stop.DiskFault
+        → HasRisen (D.faults core.old.journal.disk) (D.faults core.new.journal.disk) }
     ensures goes { GoesOn D.Disk core.old.journal.disk core.new.journal.disk }
     ensures later { P.refusals core.old.patterns ≤ P.refusals core.new.patterns }
 {
@@ -89,10 +90,12 @@ fn commit_set<D: Disk, P: Patterns + Drop>(
 ) -> Result<Report, Stop>
     requires open { IsOpen plan.now core.old }
     requires alone { IsAlone plan.now.mounted rec.old prepared }
-    ensures serving { (parent : Name) (keys : KeyMap) → HasFetched plan.now.mounted parent rec.old → IsMade formats (store_alone plan.now.mounted) the_handle (record_of rec.old) parent keys prepared
+    ensures serving { (parent : Name) (keys : KeyMap) → HasFetched plan.now.mounted parent rec.old
+        → IsMade formats (store_alone plan.now.mounted) the_handle (record_of rec.old) parent keys prepared
         → Serving D.Disk plan.now.mounted (AnswersSet (MayRefuse result (P.refusals core.old.patterns) (P.refusals core.new.patterns)) plan.now.mounted parent keys (string_bytes out)) result core.old core.new }
     ensures status { (own : List ℕ) → IfOk result (λ report. IsEnd own report.status) }
-    ensures cause { result ≡ Err Stop.DiskFault → HasRisen (D.faults core.old.journal.disk) (D.faults core.new.journal.disk) }
+    ensures cause { result ≡ Err Stop.DiskFault
+        → HasRisen (D.faults core.old.journal.disk) (D.faults core.new.journal.disk) }
     ensures goes { GoesOn D.Disk core.old.journal.disk core.new.journal.disk }
     ensures later { P.refusals core.old.patterns ≤ P.refusals core.new.patterns }
 {

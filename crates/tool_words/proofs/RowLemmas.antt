@@ -37,7 +37,8 @@ NamesAny (Imports name kind) = Unit {0}
 
 -- ---- the words behind a command
 
-read_by-names : (app : App) (take : List Values → Request) → ((rows : List Values) → NamesAny (take rows)) → (words : List (List ℕ)) → NamesAny (read_by app take words)
+read_by-names : (app : App) (take : List Values → Request) → ((rows : List Values) → NamesAny (take rows))
+    → (words : List (List ℕ)) → NamesAny (read_by app take words)
 read_by-names app take each words = by (refuses app words)
   where
     by : (b : Bool) → NamesAny (cond b (Refuses 1 options_refused) (take (values app words)))
@@ -47,27 +48,42 @@ read_by-names app take each words = by (refuses app words)
 none-names : (asked : Request) → NamesAny asked → (words : List (List ℕ)) → NamesAny (on_none asked words)
 none-names asked names = read_by-names no_arguments (λ rows. asked) (λ rows. names)
 
-one-names : (take : List ℕ → Request) → ((a : List ℕ) → NamesAny (take a)) → (words : List (List ℕ)) → NamesAny (on_one take words)
-one-names take each = read_by-names one_argument (λ rows. take (value (codes "1") rows)) (λ rows. each (value (codes "1") rows))
+one-names : (take : List ℕ → Request) → ((a : List ℕ) → NamesAny (take a)) → (words : List (List ℕ))
+    → NamesAny (on_one take words)
+one-names take each =
+    read_by-names one_argument (λ rows. take (value (codes "1") rows)) (λ rows. each (value (codes "1") rows))
 
-two-names : (take : List ℕ → List ℕ → Request) → ((a b : List ℕ) → NamesAny (take a b)) → (words : List (List ℕ)) → NamesAny (on_two take words)
-two-names take each = read_by-names two_arguments (λ rows. take (value (codes "1") rows) (value (codes "2") rows)) (λ rows. each (value (codes "1") rows) (value (codes "2") rows))
+two-names : (take : List ℕ → List ℕ → Request) → ((a b : List ℕ) → NamesAny (take a b)) → (words : List (List ℕ))
+    → NamesAny (on_two take words)
+two-names take each =
+    read_by-names two_arguments (λ rows. take (value (codes "1") rows) (value (codes "2") rows)) (λ rows. each (value (codes "1") rows) (value (codes "2") rows))
 
-three-names : (take : List ℕ → List ℕ → List ℕ → Request) → ((a b c : List ℕ) → NamesAny (take a b c)) → (words : List (List ℕ)) → NamesAny (on_three take words)
-three-names take each = read_by-names three_arguments (λ rows. take (value (codes "1") rows) (value (codes "2") rows) (value (codes "3") rows)) (λ rows. each (value (codes "1") rows) (value (codes "2") rows) (value (codes "3") rows))
+three-names : (take : List ℕ → List ℕ → List ℕ → Request) → ((a b c : List ℕ) → NamesAny (take a b c))
+    → (words : List (List ℕ)) → NamesAny (on_three take words)
+three-names take each =
+    read_by-names three_arguments (λ rows. take (value (codes "1") rows) (value (codes "2") rows) (value (codes "3") rows)) (λ rows. each (value (codes "1") rows) (value (codes "2") rows) (value (codes "3") rows))
 
-two_or_three-names : (take : Bool → List ℕ → List ℕ → Option (List ℕ) → Request) → ((by_key : Bool) (a b : List ℕ) (c : Option (List ℕ)) → NamesAny (take by_key a b c)) → (words : List (List ℕ)) → NamesAny (on_two_or_three_by_key take words)
+two_or_three-names : (take : Bool → List ℕ → List ℕ → Option (List ℕ) → Request)
+    → ((by_key : Bool) (a b : List ℕ) (c : Option (List ℕ)) → NamesAny (take by_key a b c)) → (words : List (List ℕ))
+    → NamesAny (on_two_or_three_by_key take words)
 two_or_three-names take each =
     read_by-names two_or_three_by_key (λ rows. take (is_set (codes "k") rows) (value (codes "1") rows) (value (codes "2") rows) (given_value (codes "3") rows))
     (λ rows. each (is_set (codes "k") rows) (value (codes "1") rows) (value (codes "2") rows) (given_value (codes "3") rows))
 
-one_extended-names : (take : Extent → List ℕ → Request) → ((extent : Extent) (a : List ℕ) → NamesAny (take extent a)) → (words : List (List ℕ)) → NamesAny (on_one_extended take words)
-one_extended-names take each = read_by-names one_extended (λ rows. take (extent_in rows) (value (codes "1") rows)) (λ rows. each (extent_in rows) (value (codes "1") rows))
+one_extended-names : (take : Extent → List ℕ → Request) → ((extent : Extent) (a : List ℕ) → NamesAny (take extent a))
+    → (words : List (List ℕ)) → NamesAny (on_one_extended take words)
+one_extended-names take each =
+    read_by-names one_extended (λ rows. take (extent_in rows) (value (codes "1") rows)) (λ rows. each (extent_in rows) (value (codes "1") rows))
 
-two_extended-names : (take : Extent → List ℕ → List ℕ → Request) → ((extent : Extent) (a b : List ℕ) → NamesAny (take extent a b)) → (words : List (List ℕ)) → NamesAny (on_two_extended take words)
-two_extended-names take each = read_by-names two_extended (λ rows. take (extent_in rows) (value (codes "1") rows) (value (codes "2") rows)) (λ rows. each (extent_in rows) (value (codes "1") rows) (value (codes "2") rows))
+two_extended-names : (take : Extent → List ℕ → List ℕ → Request)
+    → ((extent : Extent) (a b : List ℕ) → NamesAny (take extent a b)) → (words : List (List ℕ))
+    → NamesAny (on_two_extended take words)
+two_extended-names take each =
+    read_by-names two_extended (λ rows. take (extent_in rows) (value (codes "1") rows) (value (codes "2") rows)) (λ rows. each (extent_in rows) (value (codes "1") rows) (value (codes "2") rows))
 
-four_by_strategy-names : (take : List ℕ → List ℕ → List ℕ → List ℕ → List ℕ → Request) → ((a b c d word : List ℕ) → NamesAny (take a b c d word)) → (words : List (List ℕ)) → NamesAny (on_four_by_strategy take words)
+four_by_strategy-names : (take : List ℕ → List ℕ → List ℕ → List ℕ → List ℕ → Request)
+    → ((a b c d word : List ℕ) → NamesAny (take a b c d word)) → (words : List (List ℕ))
+    → NamesAny (on_four_by_strategy take words)
 four_by_strategy-names take each =
     read_by-names four_by_strategy (λ rows. take (value (codes "1") rows) (value (codes "2") rows) (value (codes "3") rows) (value (codes "4") rows) (value (codes "s") rows))
     (λ rows. each (value (codes "1") rows) (value (codes "2") rows) (value (codes "3") rows) (value (codes "4") rows) (value (codes "s") rows))
@@ -77,19 +93,24 @@ four_by_strategy-names take each =
 unnamed-names : (word : List ℕ) → NamesAny (unnamed word)
 unnamed-names word = by (refusal_of word)
   where
-    by : (o : Option Refusal) → NamesAny (elim o [ Some refusal ↦ Refuses 2 (no_name refusal) | None ↦ Refuses 2 (argument word) ])
+    by : (o : Option Refusal)
+        → NamesAny (elim o [ Some refusal ↦ Refuses 2 (no_name refusal) | None ↦ Refuses 2 (argument word) ])
     by None = tt
     by (Some refusal) = tt
 
-name-names : (word : List ℕ) (asked : Name → Request) → ((name : Name) → NamesAny (asked name)) → NamesAny (on_name word asked)
+name-names : (word : List ℕ) (asked : Name → Request) → ((name : Name) → NamesAny (asked name))
+    → NamesAny (on_name word asked)
 name-names word asked each = by (name_of word)
   where
     by : (o : Option Name) → NamesAny (elim o [ Some name ↦ asked name | None ↦ unnamed word ])
     by None = unnamed-names word
     by (Some name) = each name
 
-name_for-names : (purpose : Use) (word : List ℕ) (asked : Name → Request) → ((name : Name) → bars purpose name.namespace ≡ false → NamesAny (asked name)) → NamesAny (on_name_for purpose word asked)
-name_for-names purpose word asked each = name-names word (λ name. cond (bars purpose name.namespace) (Bars name) (asked name)) (λ name. by name (bars purpose name.namespace) refl)
+name_for-names : (purpose : Use) (word : List ℕ) (asked : Name → Request)
+    → ((name : Name) → bars purpose name.namespace ≡ false → NamesAny (asked name))
+    → NamesAny (on_name_for purpose word asked)
+name_for-names purpose word asked each =
+    name-names word (λ name. cond (bars purpose name.namespace) (Bars name) (asked name)) (λ name. by name (bars purpose name.namespace) refl)
   where
     by : (name : Name) (b : Bool) → bars purpose name.namespace ≡ b → NamesAny (cond b (Bars name) (asked name))
     by name true is = tt
@@ -102,7 +123,8 @@ meta-names text asked names = by (is_meta text)
     by true = names
     by false = tt
 
-kind-names : (plugin : Option (List ℕ)) (asked : Kind → Request) → ((kind : Kind) → NamesAny (asked kind)) → NamesAny (on_kind plugin asked)
+kind-names : (plugin : Option (List ℕ)) (asked : Kind → Request) → ((kind : Kind) → NamesAny (asked kind))
+    → NamesAny (on_kind plugin asked)
 kind-names None asked each = each Dump
 kind-names (Some word) asked each = by (kind_of word)
   where
@@ -110,7 +132,8 @@ kind-names (Some word) asked each = by (kind_of word)
     by None = tt
     by (Some kind) = each kind
 
-strategy-names : (word : List ℕ) (asked : Strategy → Request) → ((strategy : Strategy) → NamesAny (asked strategy)) → NamesAny (on_strategy word asked)
+strategy-names : (word : List ℕ) (asked : Strategy → Request) → ((strategy : Strategy) → NamesAny (asked strategy))
+    → NamesAny (on_strategy word asked)
 strategy-names word asked each = by (strategy_of word)
   where
     by : (o : Option Strategy) → NamesAny (elim o [ None ↦ Refuses 2 (argument word) | Some strategy ↦ asked strategy ])
@@ -145,13 +168,15 @@ abbrev meta_of : List ℕ → List ℕ → Request
 meta_of word meta = on_name_for Looks word (λ name. on_meta meta (Asks (On name (GetMeta meta))))
 
 meta_getting : (words : List (List ℕ)) → NamesAny (on_two meta_of words)
-meta_getting = two-names meta_of (λ word meta. name_for-names Looks word (λ name. on_meta meta (Asks (On name (GetMeta meta)))) (λ name is. meta-names meta (Asks (On name (GetMeta meta))) tt))
+meta_getting =
+    two-names meta_of (λ word meta. name_for-names Looks word (λ name. on_meta meta (Asks (On name (GetMeta meta)))) (λ name is. meta-names meta (Asks (On name (GetMeta meta))) tt))
 
 abbrev meta_with : List ℕ → List ℕ → List ℕ → Request
 meta_with word meta text = on_name_for Writes word (λ name. on_meta meta (Asks (On name (SetMeta meta text))))
 
 meta_setting : (words : List (List ℕ)) → NamesAny (on_three meta_with words)
-meta_setting = three-names meta_with (λ word meta text. name_for-names Writes word (λ name. on_meta meta (Asks (On name (SetMeta meta text)))) (λ name is. meta-names meta (Asks (On name (SetMeta meta text))) tt))
+meta_setting =
+    three-names meta_with (λ word meta text. name_for-names Writes word (λ name. on_meta meta (Asks (On name (SetMeta meta text)))) (λ name is. meta-names meta (Asks (On name (SetMeta meta text))) tt))
 
 bringing : (way : Way) (words : List (List ℕ)) → NamesAny (on_two_extended (asks_to_bring way) words)
 bringing way = two_extended-names (asks_to_bring way) (λ extent from to.
@@ -176,7 +201,8 @@ abbrev file_asked : List ℕ → Request
 file_asked word = on_name_for Writes word (λ name. Asks (FileOf name))
 
 file : (words : List (List ℕ)) → NamesAny (on_one file_asked words)
-file = one-names file_asked (λ word. name_for-names Writes word (λ name. Asks (FileOf name)) (λ name is. writable-in_files name.namespace is))
+file =
+    one-names file_asked (λ word. name_for-names Writes word (λ name. Asks (FileOf name)) (λ name is. writable-in_files name.namespace is))
 
 abbrev violations_asked : List ℕ → Request
 violations_asked word = on_name word (λ name. Asks (ViolationsOf name))
@@ -194,13 +220,17 @@ passing-names flow = two-names (asks_to_pass flow) (λ word format.
 
 -- a line for each row, in their order
 rows-name : AllByRecursion (λ (row : Row). (words : List (List ℕ)) → NamesAny (row.asks_for words)) rows
-rows-name = (key_alone Looks Get, (setting, (removing, (key_alone Looks Names, (meta_getting, (meta_setting, (key_alone Looks MetaNames, (bringing Copies, (bringing Moves, (mounting, (key_alone Writes Unmount, (mounts, (file, (passing-names Out, (passing-names In, (validating, (merging-names, tt)))))))))))))))))
+rows-name =
+    (key_alone Looks Get, (setting, (removing, (key_alone Looks Names, (meta_getting, (meta_setting, (key_alone Looks MetaNames, (bringing Copies, (bringing Moves, (mounting, (key_alone Writes Unmount, (mounts, (file, (passing-names Out, (passing-names In, (validating, (merging-names, tt)))))))))))))))))
 
-asked_by-names : (some : List Row) → AllByRecursion (λ (row : Row). (words : List (List ℕ)) → NamesAny (row.asks_for words)) some → (word : List ℕ) (words : List (List ℕ)) → NamesAny (asked_by some word words)
+asked_by-names : (some : List Row)
+    → AllByRecursion (λ (row : Row). (words : List (List ℕ)) → NamesAny (row.asks_for words)) some
+    → (word : List ℕ) (words : List (List ℕ)) → NamesAny (asked_by some word words)
 asked_by-names [] each word words = tt
 asked_by-names (row ∷ others) each word words = by (asked_by-names others each.1 word words) (is_text word row.word)
   where
-    by : NamesAny (asked_by others word words) → (b : Bool) → NamesAny (cond b (row.asks_for words) (asked_by others word words))
+    by : NamesAny (asked_by others word words) → (b : Bool)
+        → NamesAny (cond b (row.asks_for words) (asked_by others word words))
     by rest true = each.0 words
     by rest false = rest
 
@@ -208,5 +238,6 @@ names : (words : List (List ℕ)) → NamesAny (request words)
 names [] = tt
 names (word ∷ words) = asked_by-names rows rows-name word words
 
-pub request-names_files : (words : List (List ℕ)) (question : Question) → request words ≡ Asks question → NamesFiles question
+pub request-names_files : (words : List (List ℕ)) (question : Question) → request words ≡ Asks question
+    → NamesFiles question
 request-names_files words question is = subst NamesAny is (names words)

@@ -8,7 +8,8 @@ use Rattle.general_words.specs.Texts.{is_text}
 
 -- a command without arguments. It has no help and no version, and its own word isn't among the words
 abbrev pub no_arguments : App
-no_arguments = let app = new_app (codes "kdb") in record app { top = record (app.top) { no_binary_name = true; disable_help_flag = true } }
+no_arguments =
+    let app = new_app (codes "kdb") in record app { top = record (app.top) { no_binary_name = true; disable_help_flag = true } }
 
 -- an argument that may not be left out, and one that may
 abbrev pub required : List ℕ → Rule

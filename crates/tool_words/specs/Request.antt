@@ -85,7 +85,8 @@ abbrev pub on_two : (List ℕ → List ℕ → Request) → List (List ℕ) → 
 on_two take = read_by two_arguments (λ rows. take (value (codes "1") rows) (value (codes "2") rows))
 
 abbrev pub on_three : (List ℕ → List ℕ → List ℕ → Request) → List (List ℕ) → Request
-on_three take = read_by three_arguments (λ rows. take (value (codes "1") rows) (value (codes "2") rows) (value (codes "3") rows))
+on_three take =
+    read_by three_arguments (λ rows. take (value (codes "1") rows) (value (codes "2") rows) (value (codes "3") rows))
 
 -- of one that takes two, a third that may be left out, and `-k`
 abbrev pub on_two_or_three_by_key : (Bool → List ℕ → List ℕ → Option (List ℕ) → Request) → List (List ℕ) → Request
@@ -97,7 +98,8 @@ abbrev pub on_one_extended : (Extent → List ℕ → Request) → List (List �
 on_one_extended take = read_by one_extended (λ rows. take (extent_in rows) (value (codes "1") rows))
 
 abbrev pub on_two_extended : (Extent → List ℕ → List ℕ → Request) → List (List ℕ) → Request
-on_two_extended take = read_by two_extended (λ rows. take (extent_in rows) (value (codes "1") rows) (value (codes "2") rows))
+on_two_extended take =
+    read_by two_extended (λ rows. take (extent_in rows) (value (codes "1") rows) (value (codes "2") rows))
 
 -- of one that takes four, and `-s`
 abbrev pub on_four_by_strategy : (List ℕ → List ℕ → List ℕ → List ℕ → List ℕ → Request) → List (List ℕ) → Request
@@ -135,11 +137,13 @@ asks by action word = on_name_for by word (λ name. Asks (On name action))
 
 -- the key of a word is brought to the name that another word spells
 abbrev pub asks_to_bring : Way → Extent → List ℕ → List ℕ → Request
-asks_to_bring way extent from to = on_name_for Writes from (λ name. on_name_for Writes to (λ other. Asks (On name (Bring way extent other))))
+asks_to_bring way extent from to =
+    on_name_for Writes from (λ name. on_name_for Writes to (λ other. Asks (On name (Bring way extent other))))
 
 -- a file is mounted at the name of a word, and its conflicts are counted by key or not
 abbrev pub asks_to_mount : Bool → List ℕ → List ℕ → Option (List ℕ) → Request
-asks_to_mount by_key file word plugin = on_name_for Writes word (λ name. on_kind plugin (λ kind. Asks (On name (MountFile file kind by_key))))
+asks_to_mount by_key file word plugin =
+    on_name_for Writes word (λ name. on_kind plugin (λ kind. Asks (On name (MountFile file kind by_key))))
 
 -- the keys at or below a name go out, or others come in
 abbrev pub passing : Flow → Name → Kind → Request

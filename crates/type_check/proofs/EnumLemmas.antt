@@ -13,5 +13,7 @@ use Rattle.model_rules.specs.declared.breaches.Broken.{Broken}
 get-none : {K X : Type 0} {R : K → K → Ordering} (m : FinMap R X) (q : K) → map.entries m ≡ [] → map.get m q ≡ None
 get-none {R = R} m q none = get-entries m q ∙ ap (find R q) none
 
-pub keeps_bare : (value : List ℕ) (meta : Meta) (broken : Broken) → length (map.entries meta) ≡ 0 → BreaksEnum value meta broken → ⊥
-keeps_bare value meta broken none p = p.some (array_texts-none meta (codes "check/enum") (get-none meta (item_name (codes "check/enum") 0) (nil_from_length (map.entries meta) none)))
+pub keeps_bare : (value : List ℕ) (meta : Meta) (broken : Broken) → length (map.entries meta) ≡ 0
+    → BreaksEnum value meta broken → ⊥
+keeps_bare value meta broken none p =
+    p.some (array_texts-none meta (codes "check/enum") (get-none meta (item_name (codes "check/enum") 0) (nil_from_length (map.entries meta) none)))

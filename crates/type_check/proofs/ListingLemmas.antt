@@ -27,7 +27,8 @@ either false true = refl
 either false false = refl
 
 -- a text more in the set is one more in the list
-pub set_more : {Y : Type 0} (items : List (List ℕ)) (i : ℕ) (item : List ℕ) (set after : BTreeSet (String Y)) (added : String Y)
+pub set_more : {Y : Type 0} (items : List (List ℕ)) (i : ℕ) (item : List ℕ) (set after : BTreeSet (String Y))
+    (added : String Y)
     → i < length items → string_bytes added ≡ get_or items i item
     → UpdatesBy string_cmp (λ k. slice_cmp nat_cmp (string_bytes added) (string_bytes k)) set after true
     → ((text : List ℕ) → contains_text set text ≡ is_among (take i items) text)
@@ -40,7 +41,8 @@ set_more items i item set after added lt bytes more so_far text =
     ∙ sym (list_any_more (λ t. bytes_eq t text) items i item lt)
 
 -- a set that isn't empty has a text
-pub set_some : {Y : Type 0} (set : BTreeSet (String Y)) → (length set.keys ≡ 0 → ⊥) → (text : List ℕ) × (contains_text set text ≡ true)
+pub set_some : {Y : Type 0} (set : BTreeSet (String Y)) → (length set.keys ≡ 0 → ⊥)
+    → (text : List ℕ) × (contains_text set text ≡ true)
 set_some {Y = Y} set some = by set.keys refl
   where
     by : (keys : List (String Y)) → set.keys ≡ keys → (text : List ℕ) × (contains_text set text ≡ true)
@@ -70,7 +72,8 @@ no_texts (text ∷ texts) none =
 
 module _ (value : List ℕ) (meta : Meta) (listing : Listing) (broken : Broken) where
   -- an enumeration without texts takes each value
-  pub keeps_empty : IsListingOf listing meta → ((text : List ℕ) → has_text listing text ≡ false) → BreaksEnum value meta broken → ⊥
+  pub keeps_empty : IsListingOf listing meta → ((text : List ℕ) → has_text listing text ≡ false)
+      → BreaksEnum value meta broken → ⊥
   keeps_empty are none breaks = breaks.some (no_texts _ (λ text. sym (are text) ∙ none text))
 
   -- one of its texts is kept
@@ -78,7 +81,8 @@ module _ (value : List ℕ) (meta : Meta) (listing : Listing) (broken : Broken) 
   keeps_listed are there breaks = breaks.none (among-yes _ value (sym (are value) ∙ there))
 
   -- another value breaks it
-  pub breaks_listed : IsListingOf listing meta → (text : List ℕ) × (has_text listing text ≡ true) → has_text listing value ≡ false → broken ≡ breach 5 value → BreaksEnum value meta broken
+  pub breaks_listed : IsListingOf listing meta → (text : List ℕ) × (has_text listing text ≡ true)
+      → has_text listing value ≡ false → broken ≡ breach 5 value → BreaksEnum value meta broken
   breaks_listed are some none is = record {
     some = λ (nothing : array_texts meta (codes "check/enum") ≡ []).
         let clash : false ≡ true = sym (ap (λ texts. is_among texts some.0) nothing) ∙ sym (are some.0) ∙ some.1 in

@@ -16,4 +16,5 @@ has_text listing text = contains_text listing.texts text
 
 -- a listing has the texts of the enumeration of some metadata, and no others
 abbrev pub IsListingOf : Listing → Meta → Type 0
-IsListingOf listing meta = (text : List ℕ) → has_text listing text ≡ is_among (array_texts meta (codes "check/enum")) text
+IsListingOf listing meta =
+    (text : List ℕ) → has_text listing text ≡ is_among (array_texts meta (codes "check/enum")) text

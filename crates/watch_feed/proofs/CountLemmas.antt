@@ -17,7 +17,8 @@ count_in : (test : Change → Bool) (cs : List Change) → length (filter test c
 count_in test [] = omega arith
 count_in test (c ∷ cs) = by (test c) (count_in test cs)
   where
-    by : (b : Bool) → length (filter test cs) ≤ sum_by weight_of_change cs → length (cond b (c ∷ filter test cs) (filter test cs)) ≤ sum_by weight_of_change (c ∷ cs)
+    by : (b : Bool) → length (filter test cs) ≤ sum_by weight_of_change cs
+        → length (cond b (c ∷ filter test cs) (filter test cs)) ≤ sum_by weight_of_change (c ∷ cs)
     by true le = omega (arith, le, sum_by-cons weight_of_change c cs)
     by false le = omega (arith, le, sum_by-cons weight_of_change c cs)
 
@@ -30,7 +31,8 @@ module _ (parent : Name) where
       omega (arith, both, one, length-map (filter (λ (change : Change). is_within parent change.0) c.changes) (told_of number), count_from (number + 1) cs, sum_by-cons weight_of_commit c cs)
 
   -- commits that weigh no more than a history may have no more news each than that
-  few_news : (number : ℕ) (commits : List Commit) → history_weight commits ≤ heaviest_history → length (news_from parent number commits) ≤ length commits * heaviest_history
+  few_news : (number : ℕ) (commits : List Commit) → history_weight commits ≤ heaviest_history
+      → length (news_from parent number commits) ≤ length commits * heaviest_history
   few_news number [] light = omega arith
   few_news number (c ∷ cs) light = omega (arith, count_from number (c ∷ cs))
 
@@ -53,7 +55,8 @@ module _ (parent : Name) (history : List Commit) (front missed : ℕ) (ring told
       subst (λ n. length told ≤ n * heaviest_history) long (subst (λ l. length l ≤ length (drop front history) * heaviest_history) (sym told_is) some)
 
   -- then the same holds of all that it has looked at
-  pub few_still : (room : ℕ) → missed + (length (ring ++ told) - room) + length (keep_last room (ring ++ told)) ≤ length history * heaviest_history
+  pub few_still : (room : ℕ)
+      → missed + (length (ring ++ told) - room) + length (keep_last room (ring ++ told)) ≤ length history * heaviest_history
   few_still room = omega (arith, few, few_behind, length-append ring told, length-keep_last room (ring ++ told), within)
 
   -- and the number of those that it has missed fits its type
@@ -61,5 +64,6 @@ module _ (parent : Name) (history : List Commit) (front missed : ℕ) (ring told
   missed_fits room = omega (arith, few_still room, count_commits history, light)
 
 -- and the numbers of the commits do
-pub numbers_fit : (history : List Commit) (front n : ℕ) → front ≤ length history → history_weight history ≤ heaviest_history → n ≡ length history - front → front + n < 2 ^ 64
+pub numbers_fit : (history : List Commit) (front n : ℕ) → front ≤ length history
+    → history_weight history ≤ heaviest_history → n ≡ length history - front → front + n < 2 ^ 64
 numbers_fit history front n within light is = omega (arith, is, count_commits history, light, within)

@@ -15,19 +15,23 @@ use Rattle.watch_feed.specs.declared.news.Changed.{Changed}
 module _ (parent : Name) where
   -- ---- one more
 
-  pub news_in-append : (number : ℕ) (xs ys : List Change) → news_in parent number (xs ++ ys) ≡ news_in parent number xs ++ news_in parent number ys
+  pub news_in-append : (number : ℕ) (xs ys : List Change)
+      → news_in parent number (xs ++ ys) ≡ news_in parent number xs ++ news_in parent number ys
   news_in-append number xs ys =
       ap (map (told_of number)) (filter-append (λ change. is_within parent change.0) xs ys)
       ∙ map-append (told_of number) _ _
 
-  pub news_in-next : (number i : ℕ) (cs : List code.Change) (c : code.Change) (told : List Changed) → i < length cs → c ≡ get_or cs i c
-      → (told ++ news_in parent number (map change_of (take i cs))) ++ news_in parent number (change_of c ∷ []) ≡ told ++ news_in parent number (map change_of (take (i + 1) cs))
+  pub news_in-next : (number i : ℕ) (cs : List code.Change) (c : code.Change) (told : List Changed) → i < length cs
+      → c ≡ get_or cs i c
+      → (told ++ news_in parent number (map change_of (take i cs))) ++ news_in parent number (change_of c ∷ [])
+      ≡ told ++ news_in parent number (map change_of (take (i + 1) cs))
   news_in-next number i cs c told lt is =
       let more = map_more change_of cs i c lt ∙ ap (λ d. map change_of (take i cs) ++ change_of d ∷ []) (sym is) in
       append_assoc told (news_in parent number (map change_of (take i cs))) (news_in parent number (change_of c ∷ []))
       ∙ ap (λ l. told ++ l) (sym (news_in-append number (map change_of (take i cs)) (change_of c ∷ [])) ∙ ap (news_in parent number) (sym more))
 
-  pub news_from-append : (number : ℕ) (xs ys : List Commit) → news_from parent number (xs ++ ys) ≡ news_from parent number xs ++ news_from parent (number + length xs) ys
+  pub news_from-append : (number : ℕ) (xs ys : List Commit)
+      → news_from parent number (xs ++ ys) ≡ news_from parent number xs ++ news_from parent (number + length xs) ys
   news_from-append number [] ys = let same : number ≡ number + 0 = omega arith in ap (λ n. news_from parent n ys) same
   news_from-append number (x ∷ xs) ys =
       let next : number + 1 + length xs ≡ number + length (x ∷ xs) = omega arith in
@@ -36,7 +40,8 @@ module _ (parent : Name) where
       ∙ ap (λ n. (news_in parent number x.changes ++ news_from parent (number + 1) xs) ++ news_from parent n ys) next
 
   pub news_from-next : (front i : ℕ) (cs : List logged.Commit) (c : logged.Commit) → i < length cs → c ≡ get_or cs i c
-      → news_from parent (front + 1) (map commit_of (take i cs)) ++ news_in parent (front + i + 1) (map change_of c.changes) ≡ news_from parent (front + 1) (map commit_of (take (i + 1) cs))
+      → news_from parent (front + 1) (map commit_of (take i cs)) ++ news_in parent (front + i + 1) (map change_of c.changes)
+      ≡ news_from parent (front + 1) (map commit_of (take (i + 1) cs))
   news_from-next front i cs c lt is =
       let more = map_more commit_of cs i c lt ∙ ap (λ d. map commit_of (take i cs) ++ commit_of d ∷ []) (sym is) in
       let long = length-map (take i cs) commit_of in
@@ -49,14 +54,19 @@ module _ (parent : Name) where
   -- ---- between fronts
 
   pub news-none : (history : List Commit) (front : ℕ) → news history front front parent ≡ []
-  news-none history front = ap (news_from parent (front + 1)) (drop_all front (take front history) (omega (arith, length-take front history)))
+  news-none history front =
+      ap (news_from parent (front + 1)) (drop_all front (take front history) (omega (arith, length-take front history)))
 
   -- what comes behind the second front is none of them
-  pub news-longer : (history more : List Commit) (from to : ℕ) → to ≤ length history → news (history ++ more) from to parent ≡ news history from to parent
-  news-longer history more from to le = ap (λ l. news_from parent (from + 1) (drop from l)) (take-append-le to history more le)
+  pub news-longer : (history more : List Commit) (from to : ℕ) → to ≤ length history
+      → news (history ++ more) from to parent ≡ news history from to parent
+  news-longer history more from to le =
+      ap (λ l. news_from parent (from + 1) (drop from l)) (take-append-le to history more le)
 
-  pub news-shorter : (history : List Commit) (from to : ℕ) → news (take to history) from to parent ≡ news history from to parent
-  news-shorter history from to = ap (λ l. news_from parent (from + 1) (drop from l)) (take-take to to history (omega arith))
+  pub news-shorter : (history : List Commit) (from to : ℕ)
+      → news (take to history) from to parent ≡ news history from to parent
+  news-shorter history from to =
+      ap (λ l. news_from parent (from + 1) (drop from l)) (take-take to to history (omega arith))
 
   pub news-goes_on : (history : List Commit) (from middle to : ℕ) → from ≤ middle → middle ≤ to → to ≤ length history
       → news history from to parent ≡ news history from middle parent ++ news history middle to parent

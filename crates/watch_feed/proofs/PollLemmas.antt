@@ -14,14 +14,17 @@ module _ (history : List Commit) where
   front-last from [] h = omega arith
   front-last from (front ∷ fronts) h = omega (arith, h.0, front-last front fronts h.2)
 
-  last-within : (from : ℕ) (fronts : List ℕ) → from ≤ length history → AreFronts history from fronts → last_front from fronts ≤ length history
+  last-within : (from : ℕ) (fronts : List ℕ) → from ≤ length history → AreFronts history from fronts
+      → last_front from fronts ≤ length history
   last-within from [] le h = le
   last-within from (front ∷ fronts) le h = last-within front fronts h.1 h.2
 
   module _ (parent : Name) (room : ℕ) where
-    pub polls-tell : (from : ℕ) (fronts : List ℕ) → AreFronts history from fronts → AreTold room (news history from (last_front from fronts) parent) (polls history (watching parent room from) fronts)
+    pub polls-tell : (from : ℕ) (fronts : List ℕ) → AreFronts history from fronts
+        → AreTold room (news history from (last_front from fronts) parent) (polls history (watching parent room from) fronts)
     polls-tell from [] h = news-none parent history from
-    polls-tell from (front ∷ fronts) h = (take (length told - room) told, later, one, rest (polls-tell front fronts h.2))
+    polls-tell from (front ∷ fronts) h =
+        (take (length told - room) told, later, one, rest (polls-tell front fronts h.2))
       where
         told : List Changed
         told = news (take front history) from (length (take front history)) parent
@@ -46,5 +49,6 @@ module _ (history : List Commit) where
         }
 
         -- the next polls find the front at the length of what this one found
-        rest : AreTold room later (polls history (watching parent room front) fronts) → AreTold room later (polls history (watching parent room (length (take front history))) fronts)
+        rest : AreTold room later (polls history (watching parent room front) fronts)
+            → AreTold room later (polls history (watching parent room (length (take front history))) fronts)
         rest = subst (λ n. AreTold room later (polls history (watching parent room n) fronts)) (sym long)

@@ -22,7 +22,8 @@ module _ {X : Type 0} where
   keep_last-le n xs = omega (arith, length-drop (length xs - n) xs)
 
   -- one more is put behind the others, and the rest is still to come
-  pub keep_last-next : (n : ℕ) (xs : List X) (x : X) (rest new : List X) → new ≡ keep_last n (xs ++ x ∷ []) → keep_last n (new ++ rest) ≡ keep_last n (xs ++ x ∷ rest)
+  pub keep_last-next : (n : ℕ) (xs : List X) (x : X) (rest new : List X) → new ≡ keep_last n (xs ++ x ∷ [])
+      → keep_last n (new ++ rest) ≡ keep_last n (xs ++ x ∷ rest)
   keep_last-next n xs x rest new is =
       ap (λ l. keep_last n (l ++ rest)) is
       ∙ keep_last-again n (xs ++ x ∷ []) rest

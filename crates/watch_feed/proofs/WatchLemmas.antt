@@ -10,7 +10,8 @@ use Rattle.watch_feed.specs.Watches.{WatchValue, collected, with_told}
 use Rattle.watch_feed.specs.declared.news.Changed.{Changed}
 
 -- what is told twice is told at once
-pub with_told-twice : (watch : WatchValue) (first second : List Changed) → with_told (with_told watch first) second ≡ with_told watch (first ++ second)
+pub with_told-twice : (watch : WatchValue) (first second : List Changed)
+    → with_told (with_told watch first) second ≡ with_told watch (first ++ second)
 with_told-twice watch first second =
     let room = watch.room in
     let joined = append_assoc watch.ring first second in
@@ -25,8 +26,10 @@ with_told-twice watch first second =
     λ i. record watch { ring = kept i; missed = counted i }
 
 -- a watch that looks at a history twice, as it goes on, is as if it had looked once
-pub collected-twice : (watch : WatchValue) (before after : List Commit) → watch.front ≤ length before → IsPrefix before after → collected (collected watch before) after ≡ collected watch after
-collected-twice watch before after le prefix = subst (λ l. collected (collected watch before) l ≡ collected watch l) prefix.1 longer
+pub collected-twice : (watch : WatchValue) (before after : List Commit) → watch.front ≤ length before
+    → IsPrefix before after → collected (collected watch before) after ≡ collected watch after
+collected-twice watch before after le prefix =
+    subst (λ l. collected (collected watch before) l ≡ collected watch l) prefix.1 longer
   where
     longer : collected (collected watch before) (before ++ prefix.0) ≡ collected watch (before ++ prefix.0)
     longer =

@@ -19,7 +19,8 @@ news_in parent number changes = over (told_of number) (filter (λ change. is_wit
 -- the changes of some commits, one commit after the other, which are numbered from a number on
 abbrev pub news_from : Name → ℕ → List Commit → List Changed
 news_from parent number [] = []
-news_from parent number (commit ∷ commits) = news_in parent number commit.changes ++ news_from parent (number + 1) commits
+news_from parent number (commit ∷ commits) =
+    news_in parent number commit.changes ++ news_from parent (number + 1) commits
 
 -- the news of a history between two fronts: the changes of the commits behind the first front, up to the second
 abbrev pub news : List Commit → ℕ → ℕ → Name → List Changed

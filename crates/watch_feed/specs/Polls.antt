@@ -8,7 +8,8 @@ use Rattle.watch_feed.specs.declared.news.News.{News}
 -- what polls hand out where the watch looks, before each, at as much of a history as there is then
 abbrev pub polls : List Commit → WatchValue → List ℕ → List News
 polls history watch [] = []
-polls history watch (front ∷ fronts) = news_of (collected watch (take front history)) ∷ polls history (polled (collected watch (take front history))) fronts
+polls history watch (front ∷ fronts) =
+    news_of (collected watch (take front history)) ∷ polls history (polled (collected watch (take front history))) fronts
 
 -- these numbers of commits don't fall, from a first one on, and the history has as many
 abbrev pub AreFronts : List Commit → ℕ → List ℕ → Type 0
@@ -30,4 +31,5 @@ pub record IsTold (room : ℕ) (changes missed rest : List Changed) (poll : News
 -- polls, one after the other, tell each of some changes once, in order, or count it as missed
 abbrev pub AreTold : ℕ → List Changed → List News → Type 0
 AreTold room changes [] = changes ≡ []
-AreTold room changes (poll ∷ later) = (missed : List Changed) × (rest : List Changed) × IsTold room changes missed rest poll × AreTold room rest later
+AreTold room changes (poll ∷ later) =
+    (missed : List Changed) × (rest : List Changed) × IsTold room changes missed rest poll × AreTold room rest later

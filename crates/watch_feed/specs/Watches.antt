@@ -33,11 +33,13 @@ watching parent room front = record { parent = parent; room = room; front = fron
 
 -- a watch with more to tell: it keeps the last changes, as many as it has room for, and counts the others
 abbrev pub with_told : WatchValue → List Changed → WatchValue
-with_told watch told = record watch { ring = keep_last watch.room (watch.ring ++ told); missed = watch.missed + (length (watch.ring ++ told) - watch.room) }
+with_told watch told =
+    record watch { ring = keep_last watch.room (watch.ring ++ told); missed = watch.missed + (length (watch.ring ++ told) - watch.room) }
 
 -- a watch that has looked at a history
 abbrev pub collected : WatchValue → List Commit → WatchValue
-collected watch history = record (with_told watch (news history watch.front (length history) watch.parent)) { front = length history }
+collected watch history =
+    record (with_told watch (news history watch.front (length history) watch.parent)) { front = length history }
 
 -- what it hands out, and how it is behind that
 abbrev pub news_of : WatchValue → News

@@ -5,7 +5,8 @@ use Rattle.model_formats.proofs.HoldingLemmas.{EachHas-or_lacks, EachHas-lacks_n
 use Rattle.model_formats.proofs.keys_have_a_property_or_one_lacks_it_first.Goals as goal
 
 pub returns-clause-total : goal.returns-clause-total
-returns-clause-total c = EachHas-or_lacks (λ _ entry. entry.value ≡ []) (λ name (entry : Entry). texts-told entry.value [])
+returns-clause-total c =
+    EachHas-or_lacks (λ _ entry. entry.value ≡ []) (λ name (entry : Entry). texts-told entry.value [])
 
 pub returns-clause-not_both : goal.returns-clause-not_both
 returns-clause-not_both c = EachHas-lacks_nowhere (λ _ entry. entry.value ≡ [])

@@ -10,7 +10,9 @@ pub returns-clause-free : goal.returns-clause-free
 returns-clause-free g c = never-blocked (formats_of g.F.Formats)
 
 pub returns-clause-room : goal.returns-clause-room
-returns-clause-room g c store handle parent keys late n light is = never-full (formats_of g.F.Formats) store handle parent keys light late n is
+returns-clause-room g c store handle parent keys late n light is =
+    never-full (formats_of g.F.Formats) store handle parent keys light late n is
 
 pub returns-clause-small : goal.returns-clause-small
-returns-clause-small g c store handle parent keys late m n early is = never-large (formats_of g.F.Formats) store handle parent keys early late m n is
+returns-clause-small g c store handle parent keys late m n early is =
+    never-large (formats_of g.F.Formats) store handle parent keys early late m n is

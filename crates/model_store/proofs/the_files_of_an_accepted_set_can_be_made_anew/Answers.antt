@@ -4,4 +4,5 @@ use Rattle.model_store.proofs.Remade.{can_remake}
 use Rattle.model_store.proofs.the_files_of_an_accepted_set_can_be_made_anew.Goals as goal
 
 pub returns : goal.returns
-returns g c = λ store world core st r p set is_set ok free. can_remake (formats_of g.F.Formats) store world core st r p set is_set ok free
+returns g c =
+    λ store world core st r p set is_set ok free. can_remake (formats_of g.F.Formats) store world core st r p set is_set ok free

@@ -9,7 +9,9 @@ pub returns-clause-one : goal.returns-clause-one
 returns-clause-one c = Answers-once IsNoPattern (λ pattern off. off)
 
 pub returns-clause-told : goal.returns-clause-told
-returns-clause-told c = λ before now still words input files a. Answers-more (λ _. HasRisen before now) IsNoPattern a (λ none pattern rose. absurd (still rose)) words input files
+returns-clause-told c =
+    λ before now still words input files a. Answers-more (λ _. HasRisen before now) IsNoPattern a (λ none pattern rose. absurd (still rose)) words input files
 
 pub returns-clause-among : goal.returns-clause-among
-returns-clause-among c = λ before now words input files a. Answers-more (λ _. HasRisen before now) (MayBeRefused (HasRisen before now)) a (λ none pattern rose. inl rose) words input files
+returns-clause-among c =
+    λ before now words input files a. Answers-more (λ _. HasRisen before now) (MayBeRefused (HasRisen before now)) a (λ none pattern rose. inl rose) words input files

@@ -27,8 +27,10 @@ loop-other-preserved g c =
         workspace = was.first.workspace;
         told = was.first.told;
       };
-      others = ap (λ (h : HandleValue). set others k (record { session = record { number = other.session.number; passed = other.session.passed; handle = h; workspace = other.session.workspace }; told = other.told })) met.other
+      others =
+          ap (λ (h : HandleValue). set others k (record { session = record { number = other.session.number; passed = other.session.passed; handle = h; workspace = other.session.workspace }; told = other.told })) met.other
           ∙ set-get_or others k c.other-item.result ∙ was.others;
-      all = all-next (λ (w : Worker). IsPrefix w.session.handle.seen c.meet.new.self.seen) others c.args.others.now k c.other-item.result (omega arith) was.others
+      all =
+          all-next (λ (w : Worker). IsPrefix w.session.handle.seen c.meet.new.self.seen) others c.args.others.now k c.other-item.result (omega arith) was.others
           (λ i d lt. prefix-trans (get_or c.args.others.now i d).session.handle.seen first.session.handle.seen c.meet.new.self.seen (was.all i d lt) met.seen.0) met.seen.1;
     }

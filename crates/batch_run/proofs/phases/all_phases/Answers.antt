@@ -59,4 +59,8 @@ returns-clause-stand g c = λ procs first.
     (subst (λ (rs : List PhaseRooms). S (rows_of names (take k c.args.phases.now)) (over row_in rs) c.loop-place.workers) (take_all k rooms (omega (arith, c.requires.rooms.many))) (c.loop-place.invariant.stand procs first))
 
 pub returns-clause-shown : goal.returns-clause-shown
-returns-clause-shown g c = record { many = omega arith; each = λ q e lt. c.loop-place.invariant.shown q e (omega (arith, c.requires.rooms.many)) }
+returns-clause-shown g c =
+    record {
+      many = omega arith;
+      each = λ q e lt. c.loop-place.invariant.shown q e (omega (arith, c.requires.rooms.many));
+    }

@@ -13,7 +13,8 @@ use Rattle.model_store.specs.Store.{formats_of}
 
 abbrev pub invariant-loop-place : goal.invariant-loop-place
 invariant-loop-place g l = record {
-  stand : (procs : ℕ → KeyMap) → Stand (formats_of g.F.Formats) (lock_of l.store) (plan_of l.store) procs [] [] l.initial.workers
+  stand : (procs : ℕ → KeyMap)
+      → Stand (formats_of g.F.Formats) (lock_of l.store) (plan_of l.store) procs [] [] l.initial.workers
       → Stand (formats_of g.F.Formats) (lock_of l.store) (plan_of l.store) procs (rows_of (over number_in l.initial.workers) (take l.place l.phases)) (over row_in (take l.place l.rooms)) l.workers;
   flusher : IsFlusher (lock_of l.store) l.flusher;
   numbers : over number_in l.workers ≡ over number_in l.initial.workers;

@@ -15,7 +15,8 @@ take_all-requires-clause-ready g c κs within = λ i d lt.
     ready-all (lock_of c.args.store.now) (plan_of c.args.store.now) c.args.workers.now c.exchange.new.workers c.args.rooms.now c.exchange.new.rooms (c.requires.rooms.many ∙ length-map c.args.workers.now number_in) c.requires.resting c.exchange.ensures i d (omega arith)
 
 pub take_all-requires-clause-rooms : goal.take_all-requires-clause-rooms
-take_all-requires-clause-rooms g c κs within = λ i d lt. ready-rooms c.args.phase.now c.args.workers.now c.exchange.new.workers c.args.rooms.now c.exchange.new.rooms c.requires.rooms c.exchange.ensures i d (omega arith)
+take_all-requires-clause-rooms g c κs within =
+    λ i d lt. ready-rooms c.args.phase.now c.args.workers.now c.exchange.new.workers c.args.rooms.now c.exchange.new.rooms c.requires.rooms c.exchange.ensures i d (omega arith)
 
 pub meet_all-requires : goal.meet_all-requires
 meet_all-requires g c = λ i d lt.

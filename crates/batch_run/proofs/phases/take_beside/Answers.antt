@@ -30,4 +30,6 @@ for_each_mut-requires-sync-F g c κs within =
       shr_sync _ _ _ c.type_bounds.sync-R,
       (shr_sync _ _ _ heap.the_sync, (shr_sync _ _ _ c.type_bounds.sync-G, (shr_sync _ _ _ store, (shr_slice_sync _ _ _ steps.the_sync, tt)))),
     ) in
-    record { shared = (recorded_sync (field_at [] captures).row _ _ (type_at [] captures).to_one (struct_sync (shape (type_at [] captures)) each)).shared }
+    record {
+      shared = (recorded_sync (field_at [] captures).row _ _ (type_at [] captures).to_one (struct_sync (shape (type_at [] captures)) each)).shared;
+    }

@@ -29,4 +29,7 @@ join_mut-requires-send-F g c κs within =
     let each : AllSend captures = (shr_send _ _ _ c.type_bounds.sync-R, (shr_send _ _ _ store, (search sendable, (mut_send _ _ _ flusher.the_send, tt)))) in
     let sent = recorded_send (field_at [] captures).row _ _ (type_at [] captures).to_one (struct_send (shape (type_at [] captures)) each) in
     let row : RattleType = Recorded (field_at [] captures).row _ _ (type_at [] captures).to_one in
-    record { owned = sent.owned; leaving = λ k. Quiet-if (k (of_param 1)) (row.exit no) unseen (sent.leaving no) (λ x w. tt) }
+    record {
+      owned = sent.owned;
+      leaving = λ k. Quiet-if (k (of_param 1)) (row.exit no) unseen (sent.leaving no) (λ x w. tt);
+    }

@@ -9,4 +9,5 @@ pub returns-then-it-session : goal.returns-then-it-session
 returns-then-it-session c =
     let it = c.it-item.result in
     let there = ap number_of (sym c.it-item.is) ∙ c.if-it-session.true in
-    c.as_slice.ensures ∙ ap (λ (s : Steps). s.steps) c.it-item.is ∙ steps-found c.args.phase.now c.loop-it.it-index it c.args.session c.loop-it-test.true c.loop-it.invariant there
+    c.as_slice.ensures ∙ ap (λ (s : Steps). s.steps) c.it-item.is
+    ∙ steps-found c.args.phase.now c.loop-it.it-index it c.args.session c.loop-it-test.true c.loop-it.invariant there

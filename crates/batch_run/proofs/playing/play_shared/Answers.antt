@@ -11,7 +11,8 @@ use Rattle.store_core.specs.declared.cores.Core.{Core}
 use Rattle.batch_run.proofs.playing.play_shared.Goals as goal
 
 pub seats_for-requires : goal.seats_for-requires
-seats_for-requires g c = omega (arith, ap (λ (ns : List ℕ). length ns) (c.deref.ensures.value ∙ c.requires.places.numbers), few-sessions c.args.script.now)
+seats_for-requires g c =
+    omega (arith, ap (λ (ns : List ℕ). length ns) (c.deref.ensures.value ∙ c.requires.places.numbers), few-sessions c.args.script.now)
 
 pub new-requires-clause-handles : goal.new-requires-clause-handles
 new-requires-clause-handles g c =

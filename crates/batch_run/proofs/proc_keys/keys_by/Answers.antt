@@ -9,7 +9,11 @@ use Rattle.store_verdict.specs.ProcKeys.{AreProc}
 use Rattle.batch_run.proofs.proc_keys.keys_by.Goals as goal
 
 pub loop-line-init : goal.loop-line-init
-loop-line-init c = record { rest = ap (keys_by c.args.session c.args.lines.now) c.new-keys.ensures; proc = subst AreProc (sym c.new-keys.ensures) no_keys_proc }
+loop-line-init c =
+    record {
+      rest = ap (keys_by c.args.session c.args.lines.now) c.new-keys.ensures;
+      proc = subst AreProc (sym c.new-keys.ensures) no_keys_proc;
+    }
 
 pub loop-line-preserved : goal.loop-line-preserved
 loop-line-preserved c =

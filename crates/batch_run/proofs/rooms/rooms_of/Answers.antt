@@ -23,4 +23,8 @@ loop-phase-preserved c =
     }
 
 pub returns : goal.returns
-returns c = record { many = c.loop-phase.invariant.many ∙ omega arith; each = λ p phase e lt. c.loop-phase.invariant.each p e lt phase }
+returns c =
+    record {
+      many = c.loop-phase.invariant.many ∙ omega arith;
+      each = λ p phase e lt. c.loop-phase.invariant.each p e lt phase;
+    }

@@ -55,7 +55,8 @@ show_all-transcripts-requires-clause-wide g c =
     (subst (AreWide c.args.script.now.phases) (sym (c.as_mut_slice-3.ensures.value ∙ items)) wide)
 
 -- how the run ended
-ended : (g : Over) (c : goal.After-drop-numbers g) → Ended (formats_of g.F.Formats) (lock_of c.args.store.now) (plan_of c.args.store.now) c.args.script.now
+ended : (g : Over) (c : goal.After-drop-numbers g)
+    → Ended (formats_of g.F.Formats) (lock_of c.args.store.now) (plan_of c.args.store.now) c.args.script.now
     (over row_in c.all_phases.new.rooms) c.all_phases.new.workers c.from_vec.result c.show_all-transcripts.result
 ended g c =
     let formats : Formats = formats_of g.F.Formats in
@@ -82,7 +83,9 @@ ended g c =
       ordered = c.requires.script;
       stand = subst (λ (ns : List ℕ). S ns script.phases) numbered (subst (S (over number_in begun)) c.as_slice-phases.ensures stand);
       many = omega (arith, ap length numbered, length-map begun number_in);
-      shown = c.show_all-transcripts.ensures ∙ ap (λ (ns : List ℕ). shown_rows ns c.as_slice-phases.result.now (over row_in c.as_mut_slice-3.result.now)) (c.deref-2.ensures.value ∙ c.requires.room.numbers)
+      shown =
+          c.show_all-transcripts.ensures
+          ∙ ap (λ (ns : List ℕ). shown_rows ns c.as_slice-phases.result.now (over row_in c.as_mut_slice-3.result.now)) (c.deref-2.ensures.value ∙ c.requires.room.numbers)
           ∙ ap (λ (ps : List Phase). shown_rows names ps (over row_in c.as_mut_slice-3.result.now)) c.as_slice-phases.ensures
           ∙ ap (λ (rs : List PhaseRooms). shown_rows names script.phases (over row_in rs)) (c.as_mut_slice-3.ensures.value ∙ room_items);
       handles_are = c.from_vec.ensures ∙ c.rise_all.ensures ∙ ap (over handle_in) worker_items;

@@ -22,7 +22,8 @@ returns-then-place-len-clause-others c = λ other apart.
     let numbers = c.args.numbers.now in
     let rooms = c.args.rooms.now.items in
     let number = c.place_of-place.ensures.there (omega arith) in
-    ap (λ row. told_at numbers row other) (map-set told_in rooms place c.replace.new.dest) ∙ told-other numbers (over told_in rooms) other place 0 (told_in c.replace.new.dest) (omega arith) (λ same. apart (sym same ∙ number))
+    ap (λ row. told_at numbers row other) (map-set told_in rooms place c.replace.new.dest)
+    ∙ told-other numbers (over told_in rooms) other place 0 (told_in c.replace.new.dest) (omega arith) (λ same. apart (sym same ∙ number))
 
 pub returns-clause-taken : goal.returns-clause-taken
 returns-clause-taken c =

@@ -7,7 +7,8 @@ use Rattle.batch_run.proofs.watching.poll.Goals as goal
 use Rattle.watch_feed.specs.Watches.{WatchValue}
 
 pub ask-requires-clause-front : goal.ask-requires-clause-front
-ask-requires-clause-front g c = subst (λ (watch : Option WatchValue). IsWithin c.args.handle.now.seen watch) c.in-Some.is c.requires.watch
+ask-requires-clause-front g c =
+    subst (λ (watch : Option WatchValue). IsWithin c.args.handle.now.seen watch) c.in-Some.is c.requires.watch
 
 pub returns-in-Some : goal.returns-in-Some
 returns-in-Some g c =

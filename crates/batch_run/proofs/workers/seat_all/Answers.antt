@@ -18,7 +18,8 @@ loop-handle-preserved c =
     let place : c.len-place.result ≡ length workers = c.len-place.ensures ∙ c.loop-handle.workers.ok.0 in
     record {
       handles = ap (over handle_in) items ∙ map_push handle_in workers new ∙ ap (λ l. l ++ c.in-Some.handle ∷ []) was.handles;
-      numbers = subst (λ ws. (i : ℕ) (d : Worker) → i < length ws → number_in (get_or ws i d) ≡ get_or numbers i 0) (sym items)
+      numbers =
+          subst (λ ws. (i : ℕ) (d : Worker) → i < length ws → number_in (get_or ws i d) ≡ get_or numbers i 0) (sym items)
           (each-push Named workers new was.numbers (ap (λ k. get_or numbers k 0) place));
       seated = subst (All IsSeated) (sym items) (All-push IsSeated workers new was.seated (record { keys = c.new.ensures; watch = refl; told = c.new-in-loop-handle.ensures.items }));
       room = c.push_reserved.ensures.capacity ∙ was.room;

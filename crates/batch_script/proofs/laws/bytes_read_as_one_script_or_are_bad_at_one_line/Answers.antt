@@ -10,13 +10,15 @@ use Rattle.batch_script.proofs.laws.bytes_read_as_one_script_or_are_bad_at_one_l
 
 pub returns-clause-one_script : goal.returns-clause-one_script
 returns-clause-one_script c = λ bytes script other p q.
-    p.script_is ∙ ap script_of (Leads-once Adds Adds-once (lines bytes) [] p.items q.items p.leads q.leads) ∙ sym q.script_is
+    p.script_is ∙ ap script_of (Leads-once Adds Adds-once (lines bytes) [] p.items q.items p.leads q.leads)
+    ∙ sym q.script_is
 
 pub returns-clause-one_line : goal.returns-clause-one_line
 returns-clause-one_line c = λ bytes line other p q. StopsAt-once Adds Adds-once [] (lines bytes) line other p q
 
 pub returns-clause-not_both : goal.returns-clause-not_both
-returns-clause-not_both c = λ bytes script line p q. Leads-stops_nowhere Adds Adds-once [] (lines bytes) p.items line p.leads q
+returns-clause-not_both c =
+    λ bytes script line p q. Leads-stops_nowhere Adds Adds-once [] (lines bytes) p.items line p.leads q
 
 pub returns-clause-always : goal.returns-clause-always
 returns-clause-always c = λ bytes. elim (Leads-or_stops Adds Adds-told (lines bytes) []) [

@@ -8,4 +8,5 @@ use Rattle.batch_script.proofs.RisingLemmas.{phases-ascend}
 use Rattle.batch_script.proofs.laws.sessions_ascend_in_each_phase.Goals as goal
 
 pub returns : goal.returns
-returns c = λ bytes script h. subst (λ (ps : List phases.Phase). AllByRecursion (λ (phase : phases.Phase). AreAscending phase.sessions) ps) (sym (ap (λ s. s.phases) h.script_is)) (phases-ascend (phases_of h.items))
+returns c =
+    λ bytes script h. subst (λ (ps : List phases.Phase). AllByRecursion (λ (phase : phases.Phase). AreAscending phase.sessions) ps) (sym (ap (λ s. s.phases) h.script_is)) (phases-ascend (phases_of h.items))

@@ -16,7 +16,8 @@ pub loop-steps-preserved-in-Continue-1 : goal.loop-steps-preserved-in-Continue-1
 loop-steps-preserved-in-Continue-1 c =
     let some = some-by c.in-Some.steps.items (sym (ap (λ (n : ℕ). n == 0) c.in-Some.steps.ok.0) ∙ sym c.is_empty.ensures ∙ c.if-not-is_empty.true) in
     record {
-      all = gathered-pop c.loop-steps.rooms.items c.pop.new.self.items c.in-Some.steps (c.len.result + 1) c.from_vec-steps.result c.loop-steps.sessions.items c.push.new.self.items _
+      all =
+          gathered-pop c.loop-steps.rooms.items c.pop.new.self.items c.in-Some.steps (c.len.result + 1) c.from_vec-steps.result c.loop-steps.sessions.items c.push.new.self.items _
           c.in-Some.ensures.items some (omega (arith, c.len.ensures)) c.from_vec-steps.ensures c.in_ok-push.ensures.items c.loop-steps.invariant.all;
       few = omega (arith, ap length c.in-Some.ensures.items, length-append c.pop.new.self.items (c.in-Some.steps ∷ []), c.loop-steps.invariant.few);
     }

@@ -7,7 +7,8 @@ use Rattle.batch_script.specs.Scripts.{Adds}
 use Rattle.batch_script.proofs.reading.parse_script.Given as goal
 
 abbrev pub invariant-loop-rest : goal.invariant-loop-rest
-invariant-loop-rest l = (items : List Item) × HasRead Adds [] l.bytes l.rest items l.number × IsProgress l.progress items × (l.number + length l.rest ≤ length l.bytes + 1)
+invariant-loop-rest l =
+    (items : List Item) × HasRead Adds [] l.bytes l.rest items l.number × IsProgress l.progress items × (l.number + length l.rest ≤ length l.bytes + 1)
 
 abbrev pub decreases-loop-rest : goal.decreases-loop-rest
 decreases-loop-rest l = length l.rest

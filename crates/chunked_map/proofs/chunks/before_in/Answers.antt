@@ -6,7 +6,8 @@ use Rattle.chunked_map.proofs.CountLemmas.{front_are, bounded_in, before_in_all,
 use Rattle.chunked_map.proofs.chunks.before_in.Goals as goal
 
 pub count_in-front-requires : goal.count_in-front-requires
-count_in-front-requires g c = front_are g.K.Ord.cmp g.met.K.Ord.total c.args.key.now c.args.chunks.now c.args.at c.requires.place.within c.requires.chunks
+count_in-front-requires g c =
+    front_are g.K.Ord.cmp g.met.K.Ord.total c.args.key.now c.args.chunks.now c.args.at c.requires.place.within c.requires.chunks
 
 pub returns-then-at-chunks-clause-bounds : goal.returns-then-at-chunks-clause-bounds
 returns-then-at-chunks-clause-bounds g c =

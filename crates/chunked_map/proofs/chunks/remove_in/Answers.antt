@@ -13,7 +13,8 @@ returns-then-len-eq0-clause-former g c =
     let cs = c.args.chunks.now.items in
     let chunk = c.index_mut.result.now in
     let there = subst (λ es. IsPlace R es q c.args.place) (same_default cs c.args.at [] chunk c.requires.within ∙ sym c.index_mut.ensures.value) c.requires.place in
-    c.in_ok-former.ensures.former q there ∙ find_in R g.met.K.Ord.total q cs c.args.at chunk c.requires.home c.requires.within c.index_mut.ensures.value
+    c.in_ok-former.ensures.former q there
+    ∙ find_in R g.met.K.Ord.total q cs c.args.at chunk c.requires.home c.requires.within c.index_mut.ensures.value
 
 pub returns-then-len-eq0-clause-ok : goal.returns-then-len-eq0-clause-ok
 returns-then-len-eq0-clause-ok g c =
@@ -46,7 +47,8 @@ returns-clause-former g c =
     let cs = c.args.chunks.now.items in
     let chunk = c.index_mut.result.now in
     let there = subst (λ es. IsPlace R es q c.args.place) (same_default cs c.args.at [] chunk c.requires.within ∙ sym c.index_mut.ensures.value) c.requires.place in
-    c.in_ok-former.ensures.former q there ∙ find_in R g.met.K.Ord.total q cs c.args.at chunk c.requires.home c.requires.within c.index_mut.ensures.value
+    c.in_ok-former.ensures.former q there
+    ∙ find_in R g.met.K.Ord.total q cs c.args.at chunk c.requires.home c.requires.within c.index_mut.ensures.value
 
 pub returns-clause-ok : goal.returns-clause-ok
 returns-clause-ok g c =

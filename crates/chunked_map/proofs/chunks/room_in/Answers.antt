@@ -8,7 +8,8 @@ use Rattle.chunked_map.proofs.chunks.room_in.Goals as goal
 
 pub returns-then-place-clause-same : goal.returns-then-place-clause-same
 returns-then-place-clause-same g c =
-    ap joined c.in_ok-split_in.ensures.ok ∙ joined_parted g.K.Ord.cmp c.args.chunks.now.items c.args.at c.requires.within 32
+    ap joined c.in_ok-split_in.ensures.ok
+    ∙ joined_parted g.K.Ord.cmp c.args.chunks.now.items c.args.at c.requires.within 32
 
 pub returns-then-place-clause-chunks : goal.returns-then-place-clause-chunks
 returns-then-place-clause-chunks g c =
@@ -46,7 +47,8 @@ returns-then-place-clause-room g c =
 
 pub returns-clause-same : goal.returns-clause-same
 returns-clause-same g c =
-    ap joined c.in_ok-split_in.ensures.ok ∙ joined_parted g.K.Ord.cmp c.args.chunks.now.items c.args.at c.requires.within 32
+    ap joined c.in_ok-split_in.ensures.ok
+    ∙ joined_parted g.K.Ord.cmp c.args.chunks.now.items c.args.at c.requires.within 32
 
 pub returns-clause-chunks : goal.returns-clause-chunks
 returns-clause-chunks g c =

@@ -7,7 +7,8 @@ use Rattle.chunked_map.proofs.counted.is_before_all.Goals as goal
 
 module _ (g : given.Over) (c : goal.In-Greater g) where
   first : c.index-entries-0.result ≡ get_or c.index-chunks-0.result 0 c.index-entries-0.result
-  first = subst (λ es. c.index-entries-0.result ≡ get_or es 0 c.index-entries-0.result) c.entries.ensures.all c.index-entries-0.is
+  first =
+      subst (λ es. c.index-entries-0.result ≡ get_or es 0 c.index-entries-0.result) c.entries.ensures.all c.index-entries-0.is
 
   before : g.K.Ord.cmp c.index-entries-0.result.0 c.args.key.now ≡ Greater
   before = ap (λ e. g.K.Ord.cmp e.0 c.args.key.now) c.index-entries-0.is ∙ sym c.cmp.ensures ∙ c.in-Greater.is

@@ -62,7 +62,10 @@ returns-in-Equal-clause-there g c =
     let at = c.loop-low.low + (c.loop-low.high - c.loop-low.low) / 2 in
     let lt : at < length es = omega (arith, c.loop-low.invariant.within, c.loop-low-test.true) in
     let is : R (get_or es at c.index-entries-middle.result).0 c.args.key.now ≡ Equal = sym c.compare_counted.ensures.order ∙ c.in-Equal.is in
-    record { in_range = lt; tied = λ d. ap (λ e. R e.0 c.args.key.now) (same_default es at d c.index-entries-middle.result lt) ∙ is }
+    record {
+      in_range = lt;
+      tied = λ d. ap (λ e. R e.0 c.args.key.now) (same_default es at d c.index-entries-middle.result lt) ∙ is;
+    }
 
 pub returns-in-Equal-clause-more : goal.returns-in-Equal-clause-more
 returns-in-Equal-clause-more g c = omega (arith, c.compare_counted.ensures.step, c.loop-low.invariant.since)

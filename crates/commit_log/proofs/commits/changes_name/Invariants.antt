@@ -6,4 +6,5 @@ use Rattle.commit_log.specs.CommitView.{change_of}
 use Rattle.commit_log.proofs.commits.changes_name.Given as goal
 
 abbrev pub invariant-loop-change : goal.invariant-loop-change
-invariant-loop-change l = list_any (λ change. name_eq l.name change.0) (take l.change-index (map change_of l.change-items)) ≡ false
+invariant-loop-change l =
+    list_any (λ change. name_eq l.name change.0) (take l.change-index (map change_of l.change-items)) ≡ false

@@ -19,4 +19,5 @@ loop-i-preserved c =
     let there = commit-at c.args.commits.now c.loop-i.i c.index-commits-i.result c.loop-i-test.true c.index-commits-i.is in
     let same = ap (λ (r : Commit). is_among r.touched mount) c.index-commits-i.is ∙ ap (λ touched. is_among touched mount) (sym c.as_slice.ensures) in
     let passes = same ∙ sym c.is_among.ensures ∙ c.if-is_among.false in
-    c.loop-i.invariant ∙ first_after-next (map commit_of c.args.commits.now) mount c.loop-i.i (commit_of c.index-commits-i.result) there passes
+    c.loop-i.invariant
+    ∙ first_after-next (map commit_of c.args.commits.now) mount c.loop-i.i (commit_of c.index-commits-i.result) there passes

@@ -11,4 +11,5 @@ returns-then-changes_beside c =
 pub loop-i-preserved : goal.loop-i-preserved
 loop-i-preserved c =
     let there = commit-at c.args.commits.now c.loop-i.i c.index-commits-i.result c.loop-i-test.true c.index-commits-i.is in
-    c.loop-i.invariant ∙ first_change-next (map commit_of c.args.commits.now) c.args.name.now c.loop-i.i c.args.not_by (commit_of c.index-commits-i.result) there (sym c.changes_beside.ensures ∙ c.if-changes_beside.false)
+    c.loop-i.invariant
+    ∙ first_change-next (map commit_of c.args.commits.now) c.args.name.now c.loop-i.i c.args.not_by (commit_of c.index-commits-i.result) there (sym c.changes_beside.ensures ∙ c.if-changes_beside.false)

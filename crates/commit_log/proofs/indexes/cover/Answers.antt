@@ -10,4 +10,5 @@ loop-mount-preserved c = record {
 }
 
 pub returns-clause-ok : goal.returns-clause-ok
-returns-clause-ok c = covered-all c.args.mounts.now c.loop-mount.mount-index _ c.loop-mount-test.false c.loop-mount.invariant.covered
+returns-clause-ok c =
+    covered-all c.args.mounts.now c.loop-mount.mount-index _ c.loop-mount-test.false c.loop-mount.invariant.covered

@@ -6,4 +6,5 @@ use Rattle.commit_log.specs.Naming.{marks_at, marks_of}
 use Rattle.commit_log.proofs.naming.note_changes.Given as goal
 
 abbrev pub invariant-loop-change : goal.invariant-loop-change
-invariant-loop-change l = (name : Name) → marks_at l.names name ≡ marks_at l.initial.names name ++ marks_of name l.mark (map change_of (take l.change-index l.changes))
+invariant-loop-change l =
+    (name : Name) → marks_at l.names name ≡ marks_at l.initial.names name ++ marks_of name l.mark (map change_of (take l.change-index l.changes))

@@ -6,4 +6,5 @@ use Rattle.commit_log.specs.CommitView.{change_of}
 use Rattle.commit_log.proofs.weighing.weight_of_all.Given as goal
 
 abbrev pub invariant-loop-change : goal.invariant-loop-change
-invariant-loop-change l = l.weight ≡ saturated (sum_by (λ change. weight_of_change (change_of change)) (take l.change-index l.changes))
+invariant-loop-change l =
+    l.weight ≡ saturated (sum_by (λ change. weight_of_change (change_of change)) (take l.change-index l.changes))

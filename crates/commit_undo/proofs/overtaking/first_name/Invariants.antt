@@ -7,4 +7,5 @@ use Rattle.commit_undo.proofs.InverseLemmas.{passing}
 use Rattle.commit_undo.proofs.overtaking.first_name.Given as goal
 
 abbrev pub invariant-loop-change : goal.invariant-loop-change
-invariant-loop-change l = first_some (passing (λ name. is_some (find name_cmp name l.names))) (take l.change-index l.changes) ≡ None
+invariant-loop-change l =
+    first_some (passing (λ name. is_some (find name_cmp name l.names))) (take l.change-index l.changes) ≡ None

@@ -25,4 +25,5 @@ loop-i-preserved c =
     let there = commit-at c.args.commits.now c.loop-i.i c.index-commits-i.result c.loop-i-test.true c.index-commits-i.is in
     let same = ap (λ (r : Commit). first_name test (over change_of r.changes)) c.index-commits-i.is ∙ ap (λ changes. first_name test (over change_of changes)) (sym c.as_slice.ensures) in
     let unnamed = same ∙ sym c.first_name.ensures ∙ ap option_copied c.in_default.is in
-    c.loop-i.invariant ∙ first_with-next test (over commit_of c.args.commits.now) c.loop-i.i (commit_of c.index-commits-i.result) there unnamed
+    c.loop-i.invariant
+    ∙ first_with-next test (over commit_of c.args.commits.now) c.loop-i.i (commit_of c.index-commits-i.result) there unnamed

@@ -8,4 +8,5 @@ use Rattle.model_undo.specs.Undoing.{is_changed}
 use Rattle.commit_undo.proofs.overtaking.names_of.Given as goal
 
 abbrev pub invariant-loop-change : goal.invariant-loop-change
-invariant-loop-change l = (name : Name) → is_some (find name_cmp name l.names) ≡ is_changed (over change_of (take l.change-index l.changes)) name
+invariant-loop-change l =
+    (name : Name) → is_some (find name_cmp name l.names) ≡ is_changed (over change_of (take l.change-index l.changes)) name

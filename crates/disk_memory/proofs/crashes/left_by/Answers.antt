@@ -42,9 +42,11 @@ returns-clause-left c = λ file.
 pub returns-clause-sure : goal.returns-clause-sure
 returns-clause-sure c = λ is file.
     let first = bytes_of c.args.first.now file in
-    returns-clause-chosen c file ∙ ap (λ number. left_along number file 0 first first c.args.past.now) is ∙ left_along-sure file 0 first first c.args.past.now
+    returns-clause-chosen c file ∙ ap (λ number. left_along number file 0 first first c.args.past.now) is
+    ∙ left_along-sure file 0 first first c.args.past.now
 
 pub returns-clause-whole : goal.returns-clause-whole
 returns-clause-whole c = λ is file.
     let first = bytes_of c.args.first.now file in
-    returns-clause-chosen c file ∙ ap (λ number. left_along number file 0 first first c.args.past.now) is ∙ left_along-whole file 0 first c.args.past.now
+    returns-clause-chosen c file ∙ ap (λ number. left_along number file 0 first first c.args.past.now) is
+    ∙ left_along-whole file 0 first c.args.past.now

@@ -5,7 +5,8 @@ use Rattle.dump_storage.proofs.pieces.number.Goals as goal
 use Rattle.dump_storage.proofs.pieces.number.Goals.{In-loop-digit}
 
 adds : (c : In-loop-digit) → AddsDigit c.args.digits.now c.loop-digit.digit-index c.loop-digit.number
-adds c = AddsDigit-at c.args.digits.now c.loop-digit.digit-index c.loop-digit.number c.requires.digits c.requires.few c.loop-digit-test.true c.loop-digit.invariant
+adds c =
+    AddsDigit-at c.args.digits.now c.loop-digit.digit-index c.loop-digit.number c.requires.digits c.requires.few c.loop-digit-test.true c.loop-digit.invariant
 
 pub overflow_mul-number : goal.overflow_mul-number
 overflow_mul-number c = omega (arith, (adds c).small)

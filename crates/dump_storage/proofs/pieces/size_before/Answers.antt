@@ -15,7 +15,8 @@ returns-in_err-rest c =
     rw c.from_residual.ensures (λ size rest begins. c.in_err-rest.ensures rest (c.split_digits.ensures.rest ∙ (take_while-size c.args.bytes.now rest c.args.last size c.requires begins).1))
 
 pub number-requires-clause-digits : goal.number-requires-clause-digits
-number-requires-clause-digits c = AllDigits-front c.args.bytes.now c.split_digits.result.0.now c.split_digits.ensures.digits
+number-requires-clause-digits c =
+    AllDigits-front c.args.bytes.now c.split_digits.result.0.now c.split_digits.ensures.digits
 
 pub returns : goal.returns
 returns c =

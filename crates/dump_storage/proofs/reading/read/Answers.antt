@@ -6,7 +6,8 @@ use Rattle.dump_storage.proofs.reading.read.Goals as goal
 use Rattle.dump_storage.proofs.reading.read.Goals.{In_ok-keys}
 
 has_read : (c : In_ok-keys) → HasReadAll c.args.bytes.now c.in_ok-keys.keys c.in_ok-keys.rest.now
-has_read c = subst (λ bytes. HasReadAll bytes c.in_ok-keys.keys c.in_ok-keys.rest.now) (sym c.in-Some.ensures) c.in_ok-keys.ensures
+has_read c =
+    subst (λ bytes. HasReadAll bytes c.in_ok-keys.keys c.in_ok-keys.rest.now) (sym c.in-Some.ensures) c.in_ok-keys.ensures
 
 pub returns-in-Some-empty : goal.returns-in-Some-empty
 returns-in-Some-empty c =

@@ -9,7 +9,8 @@ abbrev spelled : List ℕ × List ℕ → List ℕ
 spelled item = spelled_record (record_of_meta item)
 
 pub loop-name-init : goal.loop-name-init
-loop-name-init c = ap (λ items. c.args.bytes.now.items ++ flat_map spelled items) (c.into_iter-name-iterator.ensures.into_iter_gives ∙ c.iter-name-items.ensures.all)
+loop-name-init c =
+    ap (λ items. c.args.bytes.now.items ++ flat_map spelled items) (c.into_iter-name-iterator.ensures.into_iter_gives ∙ c.iter-name-items.ensures.all)
 
 pub loop-name-preserved : goal.loop-name-preserved
 loop-name-preserved c =

@@ -20,4 +20,5 @@ returns-then-is_empty c = elim c.then-is_empty.branch [
 ]
 
 pub returns : goal.returns
-returns c = without_return-dropped c.args.line.now (length c.args.line.now - 1) (some_length (length c.args.line.now) (sym c.is_empty.ensures ∙ c.if-is_empty.false)) c.if-line-ne13.false
+returns c =
+    without_return-dropped c.args.line.now (length c.args.line.now - 1) (some_length (length c.args.line.now) (sym c.is_empty.ensures ∙ c.if-is_empty.false)) c.if-line-ne13.false

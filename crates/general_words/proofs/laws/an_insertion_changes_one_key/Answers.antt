@@ -7,4 +7,5 @@ pub returns-clause-here : goal.returns-clause-here
 returns-clause-here c = λ texts key text. get-insert_same text_cmp-total texts key text
 
 pub returns-clause-elsewhere : goal.returns-clause-elsewhere
-returns-clause-elsewhere c = λ texts key text other differs. get-elsewhere text_cmp-total text_cmp-IsAntisymmetric texts key text other differs
+returns-clause-elsewhere c =
+    λ texts key text other differs. get-elsewhere text_cmp-total text_cmp-IsAntisymmetric texts key text other differs

@@ -11,7 +11,9 @@ returns-then-is_blank-clause-cut c =
     let bytes = c.args.bytes.now in
     let at = c.loop-at.at in
     let blank = sym c.is_blank.ensures ∙ c.if-is_blank.true in
-    words-cut bytes at (blank-behind bytes at blank c.requires.filled) (omega arith) c.loop-at.invariant blank ∙ ap (λ rest. take at bytes ∷ words rest) (sym (take_rest bytes at))
+    words-cut bytes at (blank-behind bytes at blank c.requires.filled) (omega arith) c.loop-at.invariant blank
+    ∙ ap (λ rest. take at bytes ∷ words rest) (sym (take_rest bytes at))
 
 pub returns-clause-cut : goal.returns-clause-cut
-returns-clause-cut c = words-whole c.args.bytes.now c.requires.some (subst (AllByRecursion IsFilledByte) (take_all c.loop-at.at c.args.bytes.now (omega arith)) c.loop-at.invariant)
+returns-clause-cut c =
+    words-whole c.args.bytes.now c.requires.some (subst (AllByRecursion IsFilledByte) (take_all c.loop-at.at c.args.bytes.now (omega arith)) c.loop-at.invariant)

@@ -4,4 +4,5 @@ use Rattle.model_hosts.specs.Line.{cut_at_hash}
 use Rattle.hosts_storage.proofs.words.data_and_comment.Given as goal
 
 abbrev pub invariant-loop-at : goal.invariant-loop-at
-invariant-loop-at l = cut_at_hash l.line ≡ (take l.at l.line ++ (cut_at_hash (drop l.at l.line)).0, (cut_at_hash (drop l.at l.line)).1)
+invariant-loop-at l =
+    cut_at_hash l.line ≡ (take l.at l.line ++ (cut_at_hash (drop l.at l.line)).0, (cut_at_hash (drop l.at l.line)).1)

@@ -7,7 +7,8 @@ use Rattle.file_lines.proofs.Walking.{HaveBefore, HaveBefore-start, HaveBefore-m
 use Rattle.hosts_storage.proofs.writing.test.Goals as goal
 
 pub loop-name-init : goal.loop-name-init
-loop-name-init c = subst (HaveBefore (IsHostsKey c.args.keys.now) c.args.keys.now) (sym (c.into_iter-name-iterator.ensures.into_iter_gives ∙ c.iter-name-items.ensures)) (HaveBefore-start (IsHostsKey c.args.keys.now) c.args.keys.now)
+loop-name-init c =
+    subst (HaveBefore (IsHostsKey c.args.keys.now) c.args.keys.now) (sym (c.into_iter-name-iterator.ensures.into_iter_gives ∙ c.iter-name-items.ensures)) (HaveBefore-start (IsHostsKey c.args.keys.now) c.args.keys.now)
 
 pub loop-name-preserved : goal.loop-name-preserved
 loop-name-preserved c =
@@ -20,4 +21,5 @@ returns-then-not-branch c _ =
     (λ has. let both = sym c.if-not-branch.true ∙ c.in_ok-is_hosts_key.ensures.1 has in absurd cc))
 
 pub returns : goal.returns
-returns c = HaveBefore-all (IsHostsKey c.args.keys.now) c.args.keys.now (subst (HaveBefore (IsHostsKey c.args.keys.now) c.args.keys.now) c.in-None.ensures.steps.0 c.loop-name.invariant)
+returns c =
+    HaveBefore-all (IsHostsKey c.args.keys.now) c.args.keys.now (subst (HaveBefore (IsHostsKey c.args.keys.now) c.args.keys.now) c.in-None.ensures.steps.0 c.loop-name.invariant)

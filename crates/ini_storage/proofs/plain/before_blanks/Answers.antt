@@ -27,8 +27,10 @@ returns c =
       | then-loop-end-test+else-is_blank w ↦
           let within : end - 1 < length bytes = omega (arith, c.loop-end.invariant.within, w.loop-end-test.true) in
           let stays = without_back-stays is_blank_byte bytes (end - 1) _ within (sym w.is_blank.ensures ∙ w.if-is_blank.false) in
-          subst (λ n. take n bytes ≡ without_back is_blank_byte (take n bytes)) (one_less end w.loop-end-test.true) (sym stays) ∙ c.loop-end.invariant.same
+          subst (λ n. take n bytes ≡ without_back is_blank_byte (take n bytes)) (one_less end w.loop-end-test.true) (sym stays)
+          ∙ c.loop-end.invariant.same
       | else-loop-end-test w ↦
           let none : end ≡ 0 = omega (arith, w.loop-end-test.false) in
-          subst (λ n. take n bytes ≡ without_back is_blank_byte (take n bytes)) (sym none) refl ∙ c.loop-end.invariant.same
+          subst (λ n. take n bytes ≡ without_back is_blank_byte (take n bytes)) (sym none) refl
+          ∙ c.loop-end.invariant.same
     ]

@@ -14,7 +14,8 @@ returns-in-Some c =
     let name = c.in-Some.name.now in
     let value = c.in-Some.value.now in
     let found : cut_at_byte c.args.bytes.now ≡ Some (name, value) = sym c.sides.ensures ∙ ap seen c.in-Some.is in
-    ap₂ Pair c.without_blanks.ensures c.without_blanks-in-Some.ensures ∙ two_sides c.args.bytes.now c.requires (name, value) found
+    ap₂ Pair c.without_blanks.ensures c.without_blanks-in-Some.ensures
+    ∙ two_sides c.args.bytes.now c.requires (name, value) found
 
 pub returns-in-None : goal.returns-in-None
 unfolding seen

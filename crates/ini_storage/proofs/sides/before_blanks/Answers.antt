@@ -26,7 +26,8 @@ returns c =
       | then-loop-end-test+else-stands_blank w ↦
           let within : end - 1 < length signs = omega (arith, c.loop-end.invariant.within, w.loop-end-test.true) in
           let stays = without_back-stays is_blank signs (end - 1) _ within (sym w.stands_blank.ensures ∙ w.if-stands_blank.false) in
-          subst (λ n. take n signs ≡ without_back is_blank (take n signs)) (one_less end w.loop-end-test.true) (sym stays) ∙ c.loop-end.invariant.same
+          subst (λ n. take n signs ≡ without_back is_blank (take n signs)) (one_less end w.loop-end-test.true) (sym stays)
+          ∙ c.loop-end.invariant.same
       | else-loop-end-test w ↦
           let none : end ≡ 0 = omega (arith, w.loop-end-test.false) in
           subst (λ n. take n signs ≡ without_back is_blank (take n signs)) (sym none) refl ∙ c.loop-end.invariant.same

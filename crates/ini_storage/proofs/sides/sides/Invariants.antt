@@ -5,4 +5,5 @@ use Rattle.model_ini.specs.Signs.{cut_at_equals}
 use Rattle.ini_storage.proofs.sides.sides.Given as goal
 
 abbrev pub invariant-loop-at : goal.invariant-loop-at
-invariant-loop-at l = cut_at_equals l.signs ≡ option_map (λ sides. (take l.at l.signs ++ sides.0, sides.1)) (cut_at_equals (drop l.at l.signs))
+invariant-loop-at l =
+    cut_at_equals l.signs ≡ option_map (λ sides. (take l.at l.signs ++ sides.0, sides.1)) (cut_at_equals (drop l.at l.signs))

@@ -7,7 +7,8 @@ use Rattle.ini_storage.specs.SideView.{sign_at}
 use Rattle.ini_storage.proofs.writing.push_rest.Given as goal
 
 abbrev pub invariant-loop-left : goal.invariant-loop-left
-invariant-loop-left l = l.bytes.items ++ flat_map spelled_sign (at_last cover_blank (map (sign_at l.side) l.left)) ≡ l.fn.bytes.items ++ flat_map spelled_sign (at_last cover_blank (map (sign_at l.side) l.rest))
+invariant-loop-left l =
+    l.bytes.items ++ flat_map spelled_sign (at_last cover_blank (map (sign_at l.side) l.left)) ≡ l.fn.bytes.items ++ flat_map spelled_sign (at_last cover_blank (map (sign_at l.side) l.rest))
 
 abbrev pub decreases-loop-left : goal.decreases-loop-left
 decreases-loop-left l = length l.left

@@ -7,7 +7,8 @@ use Rattle.file_lines.proofs.Walking.{HaveBefore, HaveBefore-start, HaveBefore-m
 use Rattle.ini_storage.proofs.writing.test.Goals as goal
 
 pub loop-name-init : goal.loop-name-init
-loop-name-init c = subst (HaveBefore IsIniKey c.args.keys.now) (sym (c.into_iter-name-iterator.ensures.into_iter_gives ∙ c.iter-name-items.ensures)) (HaveBefore-start IsIniKey c.args.keys.now)
+loop-name-init c =
+    subst (HaveBefore IsIniKey c.args.keys.now) (sym (c.into_iter-name-iterator.ensures.into_iter_gives ∙ c.iter-name-items.ensures)) (HaveBefore-start IsIniKey c.args.keys.now)
 
 pub loop-name-preserved : goal.loop-name-preserved
 loop-name-preserved c =
@@ -20,4 +21,5 @@ returns-then-not-is_ini_key c _ =
     (λ has. let both = sym c.if-not-is_ini_key.true ∙ c.is_ini_key.ensures.1 has in absurd cc))
 
 pub returns : goal.returns
-returns c = HaveBefore-all IsIniKey c.args.keys.now (subst (HaveBefore IsIniKey c.args.keys.now) c.in-None.ensures.steps.0 c.loop-name.invariant)
+returns c =
+    HaveBefore-all IsIniKey c.args.keys.now (subst (HaveBefore IsIniKey c.args.keys.now) c.in-None.ensures.steps.0 c.loop-name.invariant)

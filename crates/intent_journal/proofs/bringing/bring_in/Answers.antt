@@ -4,7 +4,8 @@ use Rattle.intent_journal.proofs.Steps.{bringing}
 use Rattle.intent_journal.proofs.bringing.bring_in.Goals as goal
 
 pub returns-clause-brought : goal.returns-clause-brought
-returns-clause-brought g c tells = brought_first g.D.Disk c.args.disk.now c.bring_all.new.disk c.bring_all.result (as_one c.args.list.now) (c.bring_all.ensures.brings tells)
+returns-clause-brought g c tells =
+    brought_first g.D.Disk c.args.disk.now c.bring_all.new.disk c.bring_all.result (as_one c.args.list.now) (c.bring_all.ensures.brings tells)
 
 pub returns-clause-passes : goal.returns-clause-passes
 returns-clause-passes g c tells names before state =

@@ -18,4 +18,5 @@ returns-clause-either g c tells files doubt calm =
     calm_files (g.D.Disk.seen c.args.disk.now) (g.D.Disk.may_leave c.args.disk.now) files doubt calm (g.D.Disk.read_is_image c.args.disk.now tells)
 
 pub returns-clause-opened : goal.returns-clause-opened
-returns-clause-opened g c tells files doubt calm result opens = opened_holds g.D.Disk c.args.disk.now result opens tells files doubt calm
+returns-clause-opened g c tells files doubt calm result opens =
+    opened_holds g.D.Disk c.args.disk.now result opens tells files doubt calm

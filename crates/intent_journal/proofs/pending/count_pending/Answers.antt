@@ -6,7 +6,8 @@ use Rattle.intent_journal.proofs.LeastNames.{first_above-none, past_end, pending
 use Rattle.intent_journal.proofs.pending.count_pending.Goals as goal
 
 pub loop-count-init : goal.loop-count-init
-loop-count-init c = record { found = c.least_in-found.ensures ∙ first_above-none (pending_in c.args.list.now); within = omega arith }
+loop-count-init c =
+    record { found = c.least_in-found.ensures ∙ first_above-none (pending_in c.args.list.now); within = omega arith }
 
 pub returns-in-None : goal.returns-in-None
 returns-in-None c =

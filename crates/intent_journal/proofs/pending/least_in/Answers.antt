@@ -22,5 +22,6 @@ pub returns : goal.returns
 returns c =
     let after = option_map (λ name. name.now) c.args.after in
     let list = c.args.list.now in
-    c.loop-entry.invariant ∙ ap (λ (l : List (List FileText)). least after (as_one l) None) (take_all c.loop-entry.entry-index list c.loop-entry-test.false)
+    c.loop-entry.invariant
+    ∙ ap (λ (l : List (List FileText)). least after (as_one l) None) (take_all c.loop-entry.entry-index list c.loop-entry-test.false)
     ∙ least-contents after (as_one list)

@@ -10,7 +10,8 @@ pub returns-in-Some : goal.returns-in-Some
 returns-in-Some c k found =
     let list = c.args.list.now in
     let is = sym found ∙ ap (λ o. option_map (λ text. content_of text.now) o) c.in-Some.is in
-    c.least_in.ensures ∙ first_above-next (pending_in list) k (content_of c.in-Some.text.now) (map.entries_sorted (contents_of (as_one list))) is
+    c.least_in.ensures
+    ∙ first_above-next (pending_in list) k (content_of c.in-Some.text.now) (map.entries_sorted (contents_of (as_one list))) is
 
 pub returns-in-None : goal.returns-in-None
 returns-in-None c k found =

@@ -15,7 +15,8 @@ pub returns-in_err-length : goal.returns-in_err-length
 returns-in_err-length g c =
     let reads : OnlyReads g.D.Disk c.args.disk.now c.length.new.self = search rules in
     record {
-      retires = subst (λ r. RetiresFormer g.D.Disk c.args.disk.now c.length.new.self r) (sym (refused_items DiskFault c.from_residual.result c.from_residual.ensures.1))
+      retires =
+          subst (λ r. RetiresFormer g.D.Disk c.args.disk.now c.length.new.self r) (sym (refused_items DiskFault c.from_residual.result c.from_residual.ensures.1))
           (retires_refused g.D.Disk c.args.disk.now c.length.new.self reads DiskFault (λ tells at is. absurd (cc)) (λ version is. absurd (cc)) (λ is. c.in_err-length.ensures.cause));
     }
 
@@ -23,7 +24,8 @@ pub returns-then-branch : goal.returns-then-branch
 returns-then-branch g c =
     let reads : OnlyReads g.D.Disk c.args.disk.now c.length.new.self = search rules in
     record {
-      retires = subst (λ (items : List (List FileText)). RetiresFormer g.D.Disk c.args.disk.now c.length.new.self (Ok items)) (sym c.new.ensures.items)
+      retires =
+          subst (λ (items : List (List FileText)). RetiresFormer g.D.Disk c.args.disk.now c.length.new.self (Ok items)) (sym c.new.ensures.items)
           (retires_none g.D.Disk c.args.disk.now c.length.new.self reads (λ tells.
           let sized = c.in_ok-length.ensures.told tells in
           let short : length (g.D.Disk.seen c.args.disk.now c.args.former.now) < 5 = omega arith in
@@ -39,7 +41,8 @@ returns-in_err-list g c =
     let first : OnlyReads g.D.Disk disk mid = search rules in
     let reads = OnlyReads-then g.D.Disk disk mid new first c.read_former.ensures.reads in
     record {
-      retires = subst (λ r. RetiresFormer g.D.Disk disk new r) (sym (refused_items fault c.from_residual-in_err-list.result c.from_residual-in_err-list.ensures.1))
+      retires =
+          subst (λ r. RetiresFormer g.D.Disk disk new r) (sym (refused_items fault c.from_residual-in_err-list.result c.from_residual-in_err-list.ensures.1))
           (retires_refused g.D.Disk disk new reads fault
           (λ tells at is.
           subst (λ (n : List ℕ). former_in (g.D.Disk.seen disk n) ≡ Err (BadJournal at)) c.requires
@@ -57,7 +60,8 @@ returns-in_err-close_former g c =
     let list = c.in_ok-list.list.items in
     let reads = OnlyReads-then g.D.Disk disk c.length.new.self mid first c.read_former.ensures.reads in
     record {
-      retires = subst (λ r. RetiresFormer g.D.Disk disk new r) (sym (refused_items DiskFault c.from_residual-in_err-close_former.result c.from_residual-in_err-close_former.ensures.1))
+      retires =
+          subst (λ r. RetiresFormer g.D.Disk disk new r) (sym (refused_items DiskFault c.from_residual-in_err-close_former.result c.from_residual-in_err-close_former.ensures.1))
           (retires_failed g.D.Disk disk mid new list reads c.in_ok-list.ensures.entries
           (λ tells.
           subst (λ (n : List ℕ). former_in (g.D.Disk.seen disk n) ≡ Ok list) c.requires

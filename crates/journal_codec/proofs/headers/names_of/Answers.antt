@@ -23,4 +23,5 @@ loop-preserved c =
     rw pushed (goes_on name_at itself c.loop.names.items c.args.count c.loop.counter c.last_of.result.now c.loop.rest.now c.in_ok-name.name c.in_ok-name.after.now (names_at c.args.count [] c.args.bytes.now) c.loop-test.true previous c.in_ok-name.ensures c.loop.invariant)
 
 pub returns : goal.returns
-returns c = is_done name_at itself c.loop.names.items c.args.count c.loop.counter c.loop.rest.now (names_at c.args.count [] c.args.bytes.now) c.loop-test.false c.loop.invariant
+returns c =
+    is_done name_at itself c.loop.names.items c.args.count c.loop.counter c.loop.rest.now (names_at c.args.count [] c.args.bytes.now) c.loop-test.false c.loop.invariant

@@ -10,7 +10,8 @@ pub returns-clause-again : goal.returns-clause-again
 returns-clause-again c = listed_again
 
 pub returns-clause-entry : goal.returns-clause-entry
-returns-clause-entry c = λ names body entry e. (is_read (uncounted body) entry (listed_is_read names body entry e).plain).entry
+returns-clause-entry c =
+    λ names body entry e. (is_read (uncounted body) entry (listed_is_read names body entry e).plain).entry
 
 pub returns-clause-listed : goal.returns-clause-listed
 returns-clause-listed c = λ names body entry e. (listed_is_read names body entry e).listed
@@ -22,4 +23,5 @@ pub returns-clause-plain : goal.returns-clause-plain
 returns-clause-plain c = λ names body entry e. (listed_is_read names body entry e).plain
 
 pub returns-clause-alike : goal.returns-clause-alike
-returns-clause-alike c = λ names body entry goes_on plain listed. listed_from names body entry (record { goes_on = goes_on; listed = listed; plain = plain })
+returns-clause-alike c =
+    λ names body entry goes_on plain listed. listed_from names body entry (record { goes_on = goes_on; listed = listed; plain = plain })

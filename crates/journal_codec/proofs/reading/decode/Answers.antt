@@ -12,7 +12,8 @@ use Rattle.journal_codec.proofs.reading.decode.Goals as goal
 
 pub returns-in-Ok-clause-reads : goal.returns-in-Ok-clause-reads
 unfolding read_body
-returns-in-Ok-clause-reads c = ap (reading_of (length (uncounted c.args.body.now))) c.in-Ok.ensures ∙ ap Reads (sym c.from_vec.ensures)
+returns-in-Ok-clause-reads c =
+    ap (reading_of (length (uncounted c.args.body.now))) c.in-Ok.ensures ∙ ap Reads (sym c.from_vec.ensures)
 
 pub returns-in-Ok-clause-found : goal.returns-in-Ok-clause-found
 returns-in-Ok-clause-found c =
@@ -28,7 +29,8 @@ returns-in-Err-clause-bad c = λ at e.
     let body = c.args.body.now in
     let fault : c.fault_of.result ≡ BadJournal at = cc in
     let stopped = stopped_at (all_of is_next_name (uncounted body)) c.in-Err.stop (length body) at c.in-Err.ensures (sym c.fault_of.ensures ∙ fault) in
-    ap (λ (n : ℕ). reading_of n (all_of is_next_name (uncounted body))) (length-uncounted body) ∙ ap (reading_of (length body)) stopped.1 ∙ ap Fails stopped.2
+    ap (λ (n : ℕ). reading_of n (all_of is_next_name (uncounted body))) (length-uncounted body)
+    ∙ ap (reading_of (length body)) stopped.1 ∙ ap Fails stopped.2
 
 pub returns-in-Err-clause-place : goal.returns-in-Err-clause-place
 returns-in-Err-clause-place c = λ at e.

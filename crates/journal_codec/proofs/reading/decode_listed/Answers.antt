@@ -13,10 +13,12 @@ returns-then-not-followed-clause-bad c = λ at e.
 
 pub returns-in-Ok-clause-reads : goal.returns-in-Ok-clause-reads
 returns-in-Ok-clause-reads c =
-    listed_reads c.args.files.now c.args.body.now _ (sym c.followed.ensures ∙ c.if-not-followed.false) c.in-Ok.ensures ∙ ap Reads (sym c.from_vec.ensures)
+    listed_reads c.args.files.now c.args.body.now _ (sym c.followed.ensures ∙ c.if-not-followed.false) c.in-Ok.ensures
+    ∙ ap Reads (sym c.from_vec.ensures)
 
 pub returns-in-Ok-clause-found : goal.returns-in-Ok-clause-found
-returns-in-Ok-clause-found c = listed_spelled c.args.files.now c.args.body.now c.from_vec.result (λ i. omega (arith, c.type_inv.body i)) (returns-in-Ok-clause-reads c)
+returns-in-Ok-clause-found c =
+    listed_spelled c.args.files.now c.args.body.now c.from_vec.result (λ i. omega (arith, c.type_inv.body i)) (returns-in-Ok-clause-reads c)
 
 pub returns-in-Err-clause-bad : goal.returns-in-Err-clause-bad
 returns-in-Err-clause-bad c = λ at e.

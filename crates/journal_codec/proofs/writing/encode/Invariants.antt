@@ -5,4 +5,5 @@ use Rattle.journal_codec.specs.Forms.{over}
 use Rattle.journal_codec.proofs.writing.encode.Given as goal
 
 abbrev pub invariant-loop-file : goal.invariant-loop-file
-invariant-loop-file l = l.out.items ≡ length_bytes l.size ++ ((over + length l.files) ∷ flat_map spelled_file (take l.file-index l.files))
+invariant-loop-file l =
+    l.out.items ≡ length_bytes l.size ++ ((over + length l.files) ∷ flat_map spelled_file (take l.file-index l.files))

@@ -16,4 +16,5 @@ pub returns-clause-head : goal.returns-clause-head
 returns-clause-head c names rest is = front_is_head names is rest
 
 pub returns-clause-list : goal.returns-clause-list
-returns-clause-list c names entries rest is fits closed = journal_is (front names ++ (list_bytes entries ++ rest)) entries (written_opens names entries rest is fits closed)
+returns-clause-list c names entries rest is fits closed =
+    journal_is (front names ++ (list_bytes entries ++ rest)) entries (written_opens names entries rest is fits closed)

@@ -28,9 +28,13 @@ returns-then-left-eq0-clause-bad g t c tells at is =
     let same = sym c.late_place.ensures ∙ said in
     elim c.then-left-eq0.branch [
       | then-left-eq0-via-then-left-eq0 w ↦
-          rest_is rule c.args.left c.args.place here ∙ reading-many rule c.args.left c.args.place here c.in-Some.size w.if-left-eq0.true sized ∙ ap (λ (n : ℕ). Err n) same
+          rest_is rule c.args.left c.args.place here
+          ∙ reading-many rule c.args.left c.args.place here c.in-Some.size w.if-left-eq0.true sized
+          ∙ ap (λ (n : ℕ). Err n) same
       | then-left-eq0-via-else-left-eq0+then-next-gt-LAST_PLACE w ↦
-          rest_is rule c.args.left c.args.place here ∙ reading-late rule c.args.left c.args.place here c.in-Some.size (omega (arith, w.if-next-gt-LAST_PLACE.true)) sized ∙ ap (λ (n : ℕ). Err n) same
+          rest_is rule c.args.left c.args.place here
+          ∙ reading-late rule c.args.left c.args.place here c.in-Some.size (omega (arith, w.if-next-gt-LAST_PLACE.true)) sized
+          ∙ ap (λ (n : ℕ). Err n) same
     ]
 
 pub returns-in_err-found-clause-bad : goal.returns-in_err-found-clause-bad

@@ -25,7 +25,8 @@ returns-then-start-gt-LONGEST_HEADER-clause-bad g c tells at is =
     let seen = g.D.Disk.seen c.args.disk.now c.args.journal.now in
     let told : start_of_head seen ≡ Some c.in-Some.start = sym (c.in_ok-start.ensures.told tells) ∙ c.in-Some.is in
     let same : 2 ≡ at = cc in
-    head_long seen c.in-Some.start told c.if-start-ne-VERSION.false c.if-start-gt-LONGEST_HEADER.true ∙ ap (λ (n : ℕ). Err (BadJournal n)) same
+    head_long seen c.in-Some.start told c.if-start-ne-VERSION.false c.if-start-gt-LONGEST_HEADER.true
+    ∙ ap (λ (n : ℕ). Err (BadJournal n)) same
 
 pub returns-in_err-there-clause-reads : goal.returns-in_err-there-clause-reads
 returns-in_err-there-clause-reads g c =

@@ -15,7 +15,8 @@ returns-in_err-cut-clause-others g c tells =
     KeepsOtherImages-then _ _ _ _ (c.write_at.ensures.images tells).others (c.cut.ensures.images (c.write_at.ensures.tells ∙ tells)).others
 
 pub returns-in_err-cut-clause-seen : goal.returns-in_err-cut-clause-seen
-returns-in_err-cut-clause-seen g c tells other ne = c.cut.ensures.others (c.write_at.ensures.tells ∙ tells) other ne ∙ c.write_at.ensures.others tells other ne
+returns-in_err-cut-clause-seen g c tells other ne =
+    c.cut.ensures.others (c.write_at.ensures.tells ∙ tells) other ne ∙ c.write_at.ensures.others tells other ne
 
 pub returns-in_err-cut-clause-time : goal.returns-in_err-cut-clause-time
 returns-in_err-cut-clause-time g c tells =
@@ -33,7 +34,8 @@ returns-clause-others g c tells =
 pub returns-clause-seen : goal.returns-clause-seen
 returns-clause-seen g c tells other ne =
     let tells_then = c.write_at.ensures.tells ∙ tells in
-    ap (λ (s : Image). s other) (c.sync.ensures.same (c.cut.ensures.tells ∙ tells_then)) ∙ c.cut.ensures.others tells_then other ne ∙ c.write_at.ensures.others tells other ne
+    ap (λ (s : Image). s other) (c.sync.ensures.same (c.cut.ensures.tells ∙ tells_then))
+    ∙ c.cut.ensures.others tells_then other ne ∙ c.write_at.ensures.others tells other ne
 
 pub returns-clause-time : goal.returns-clause-time
 returns-clause-time g c tells =

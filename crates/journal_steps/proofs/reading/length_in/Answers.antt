@@ -10,4 +10,6 @@ returns-then-head-lt-HEAD c = elim c.then-head-lt-HEAD.branch [
 ]
 
 pub returns : goal.returns
-returns c = ap Some c.from_le_bytes.ensures ∙ sym (open_length-bytes c.args.head.now c.if-head-lt-HEAD.false c.if-head-ne-OPEN.false)
+returns c =
+    ap Some c.from_le_bytes.ensures
+    ∙ sym (open_length-bytes c.args.head.now c.if-head-lt-HEAD.false c.if-head-ne-OPEN.false)

@@ -8,7 +8,8 @@ pub returns-in_err-write_at-clause-writes : goal.returns-in_err-write_at-clause-
 returns-in_err-write_at-clause-writes g c tells = record {
   durable = search rules;
   images = c.write_at.ensures.images tells;
-  time = else_first _ _ _ _ (IsStepOf c.args.file.now (IsTornWrite c.args.at c.args.bytes.now) (g.D.Disk.may_leave c.args.disk.now)) (c.write_at.ensures.time tells)
+  time =
+      else_first _ _ _ _ (IsStepOf c.args.file.now (IsTornWrite c.args.at c.args.bytes.now) (g.D.Disk.may_leave c.args.disk.now)) (c.write_at.ensures.time tells)
       (step_of _ _ _ _ (c.write_at.ensures.images tells));
 }
 
@@ -26,4 +27,6 @@ returns-clause-writes g c tells =
     }
 
 pub returns-clause-seen : goal.returns-clause-seen
-returns-clause-seen g c tells other ne = ap (λ (s : Image). s other) (c.sync.ensures.same (c.write_at.ensures.tells ∙ tells)) ∙ c.write_at.ensures.others tells other ne
+returns-clause-seen g c tells other ne =
+    ap (λ (s : Image). s other) (c.sync.ensures.same (c.write_at.ensures.tells ∙ tells))
+    ∙ c.write_at.ensures.others tells other ne

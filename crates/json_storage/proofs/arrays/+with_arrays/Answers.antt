@@ -11,7 +11,8 @@ use Rattle.json_storage.proofs.arrays.+with_arrays.Goals as goal
 pub elements-returns : goal.elements-returns
 elements-returns t c =
     let made = c.loop-member.made.items in
-    ap items_view (sym (append-nil made)) ∙ c.loop-member.invariant [] (ap (λ es. elements (members_view es)) (sym c.in-None.ensures.steps.0))
+    ap items_view (sym (append-nil made))
+    ∙ c.loop-member.invariant [] (ap (λ es. elements (members_view es)) (sym c.in-None.ensures.steps.0))
 
 arrays-each : IsEach with_arrays members_with_arrays
 arrays-each = record { none = refl; more = λ name d ms. refl }
@@ -27,6 +28,7 @@ members_with_arrays-loop-key-preserved t c =
     let named : string_bytes c.in_ok-name.name ≡ string_bytes e.0 = c.in_ok-name.ensures.cases in (
       done ++ e ∷ [],
       all ∙ sym (append_assoc done (e ∷ []) left),
-      ap members_view c.in_ok-insert.ensures.entries ∙ members_view-insert_entry l.made.entries c.in_ok-name.name c.in_ok-with_arrays.field-0
+      ap members_view c.in_ok-insert.ensures.entries
+      ∙ members_view-insert_entry l.made.entries c.in_ok-name.name c.in_ok-with_arrays.field-0
           ∙ each-last with_arrays members_with_arrays arrays-each done e left (members_view l.made.entries) (string_bytes c.in_ok-name.name) (view c.in_ok-with_arrays.field-0) sorted l.invariant.2 named c.in_ok-with_arrays.ensures,
     )

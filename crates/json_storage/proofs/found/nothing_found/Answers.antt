@@ -5,4 +5,5 @@ use Rattle.json_storage.proofs.TextLemmas.{nothing-sound}
 use Rattle.json_storage.proofs.found.nothing_found.Goals as goal
 
 pub returns-clause-sound : goal.returns-clause-sound
-returns-clause-sound c = subst (λ (keys : KeyMap). IsSound (record { keys = keys; weight = 0 })) (sym c.new.ensures) nothing-sound
+returns-clause-sound c =
+    subst (λ (keys : KeyMap). IsSound (record { keys = keys; weight = 0 })) (sym c.new.ensures) nothing-sound

@@ -20,6 +20,7 @@ kept_members-loop-key-preserved t c =
     let named : string_bytes c.in_ok-name.name ≡ string_bytes e.0 = c.in_ok-name.ensures.cases in (
       done ++ e ∷ [],
       all ∙ sym (append_assoc done (e ∷ []) left),
-      ap members_view c.in_ok-insert.ensures.entries ∙ members_view-insert_entry l.made.entries c.in_ok-name.name c.in_ok-kept.field-0
+      ap members_view c.in_ok-insert.ensures.entries
+      ∙ members_view-insert_entry l.made.entries c.in_ok-name.name c.in_ok-kept.field-0
           ∙ each-last kept kept_members kept-each done e left (members_view l.made.entries) (string_bytes c.in_ok-name.name) (view c.in_ok-kept.field-0) sorted l.invariant.2 named c.in_ok-kept.ensures,
     )

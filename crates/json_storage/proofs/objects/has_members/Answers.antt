@@ -7,7 +7,8 @@ use Rattle.json_storage.proofs.objects.has_members.Goals as goal
 pub returns-in-Some : goal.returns-in-Some
 returns-in-Some c =
     let es = c.in-Some.members.now.entries in
-    some-members es c.is_empty.result c.is_empty.ensures ∙ ap are_some (sym (members-of (view c.args.value.now) (members_view es) c.in-Some.ensures))
+    some-members es c.is_empty.result c.is_empty.ensures
+    ∙ ap are_some (sym (members-of (view c.args.value.now) (members_view es) c.in-Some.ensures))
 
 pub returns-in-None : goal.returns-in-None
 returns-in-None c = members-nowhere (view c.args.value.now) c.in-None.ensures

@@ -16,4 +16,5 @@ returns-in-Some c =
     subst (λ b. Decides b (BeginsWith part (members_view es))) (sym (c.are_same.ensures ∙ ap (is_text part) named)) (begins-with part es e c.in-Some.ensures.first)
 
 pub returns-in-None : goal.returns-in-None
-returns-in-None c = (λ e. absurd cc, λ begins. let clash = c.in-None.ensures.variant.1 (begins-somewhere c.args.part.now c.args.members.now.entries begins) in absurd cc)
+returns-in-None c =
+    (λ e. absurd cc, λ begins. let clash = c.in-None.ensures.variant.1 (begins-somewhere c.args.part.now c.args.members.now.entries begins) in absurd cc)

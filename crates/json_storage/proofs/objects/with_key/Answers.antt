@@ -17,7 +17,9 @@ with_leaf-requires c =
     let key : Name × Entry = (c.in-Some.name.now, entry_of c.in-Some.entry.now) in
     let on : suc c.args.i ≡ c.args.i + 1 = omega arith in
     let first = comes-before 101 (finite.entries keys) c.args.i key (all-cascading keys c.requires.limited) (finite.entries_sorted keys) (sym c.in-Some.ensures) in
-    record { first = subst (ComesFirst (take 101 c.in-Some.name.now.parts)) (ap (λ n. tree (cut_leaves n keys)) on ∙ sym c.requires.behind) first }
+    record {
+      first = subst (ComesFirst (take 101 c.in-Some.name.now.parts)) (ap (λ n. tree (cut_leaves n keys)) on ∙ sym c.requires.behind) first;
+    }
 
 pub returns-in-Some : goal.returns-in-Some
 returns-in-Some c =
@@ -27,7 +29,8 @@ returns-in-Some c =
     let on : suc i ≡ i + 1 = omega arith in
     let there = got-next (finite.entries keys) i key (sym c.in-Some.ensures) ∙ ap (λ n. key ∷ drop n (finite.entries keys)) on in
     IfOk-weaker c.with_leaf.result _ _ (λ made h.
-    h ∙ ap (λ text. with_leaf (take 101 key.0.parts) text (view c.args.value)) c.as_str.ensures.bytes ∙ ap (with_leaf (take 101 key.0.parts) key.1.value) c.requires.behind
+    h ∙ ap (λ text. with_leaf (take 101 key.0.parts) text (view c.args.value)) c.as_str.ensures.bytes
+    ∙ ap (with_leaf (take 101 key.0.parts) key.1.value) c.requires.behind
     ∙ ap (λ es. tree (map (cut_leaf 101) (map leaf_of es))) (sym there)) c.with_leaf.ensures
 
 pub returns-in-None : goal.returns-in-None

@@ -7,7 +7,8 @@ use Rattle.file_lines.proofs.Walking.{HaveBefore, HaveBefore-start, HaveBefore-m
 use Rattle.json_storage.proofs.writing.test_each.Goals as goal
 
 pub loop-name-init : goal.loop-name-init
-loop-name-init c = subst (HaveBefore (IsJsonKey c.args.keys.now) c.args.keys.now) (sym (c.into_iter-name-iterator.ensures.into_iter_gives ∙ c.iter-name-items.ensures)) (HaveBefore-start (IsJsonKey c.args.keys.now) c.args.keys.now)
+loop-name-init c =
+    subst (HaveBefore (IsJsonKey c.args.keys.now) c.args.keys.now) (sym (c.into_iter-name-iterator.ensures.into_iter_gives ∙ c.iter-name-items.ensures)) (HaveBefore-start (IsJsonKey c.args.keys.now) c.args.keys.now)
 
 pub loop-name-preserved : goal.loop-name-preserved
 loop-name-preserved c =
@@ -23,4 +24,5 @@ returns-then-not-is_json_key c _ =
     (λ has. let both = sym c.if-not-is_json_key.true ∙ (c.is_json_key.ensures keys c.requires.whole).1 has in absurd cc))
 
 pub returns : goal.returns
-returns c = HaveBefore-all (IsJsonKey c.args.keys.now) c.args.keys.now (subst (HaveBefore (IsJsonKey c.args.keys.now) c.args.keys.now) c.in-None.ensures.steps.0 c.loop-name.invariant)
+returns c =
+    HaveBefore-all (IsJsonKey c.args.keys.now) c.args.keys.now (subst (HaveBefore (IsJsonKey c.args.keys.now) c.args.keys.now) c.in-None.ensures.steps.0 c.loop-name.invariant)

@@ -13,4 +13,6 @@ pub returns : goal.returns
 returns c =
     let keys = c.args.keys.now in
     let storable = c.in_ok-test.ensures in
-    record { text = (c.in_ok-text_of.ensures ∙ ap (λ d. compact_text (with_arrays d) ++ 10 ∷ []) (c.in_ok-object.ensures ∙ uncut keys storable), storable) }
+    record {
+      text = (c.in_ok-text_of.ensures ∙ ap (λ d. compact_text (with_arrays d) ++ 10 ∷ []) (c.in_ok-object.ensures ∙ uncut keys storable), storable);
+    }

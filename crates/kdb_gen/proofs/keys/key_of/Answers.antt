@@ -19,4 +19,5 @@ child-requires-3 c =
     let part : c.as_str.result.now ≡ codes "s" ++ decimal c.args.session = c.as_str.ensures.value ∙ c.in_ok-own_part.ensures.ok in
     let own : c.in_ok-own.own ≡ child_of all_keys (codes "s" ++ decimal c.args.session) = c.in_ok-own.ensures ∙ ap₂ child_of all part in
     let key : c.as_str-2.result.now ≡ codes "k" ++ decimal (c.args.round % keys_of_session) = c.as_str-2.ensures.value ∙ c.in_ok-part.ensures.ok in
-    ap₂ child_refusal own key ∙ key-fits c.args.session (c.args.round % keys_of_session) c.requires.first c.requires.last (omega arith)
+    ap₂ child_refusal own key
+    ∙ key-fits c.args.session (c.args.round % keys_of_session) c.requires.first c.requires.last (omega arith)

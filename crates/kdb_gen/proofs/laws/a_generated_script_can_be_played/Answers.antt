@@ -18,4 +18,5 @@ returns-clause-ordered c = λ rounds. All-from_recursion (λ (phase : Phase). Ar
 )
 
 pub returns-clause-procs : goal.returns-clause-procs
-returns-clause-procs c = λ rounds. All-from_recursion (λ (line : ProcLine). line.key.namespace ≡ Proc) (gen_script rounds).proc tt
+returns-clause-procs c =
+    λ rounds. All-from_recursion (λ (line : ProcLine). line.key.namespace ≡ Proc) (gen_script rounds).proc tt

@@ -6,4 +6,5 @@ use Rattle.kdb_gen.proofs.RangeLemmas.{up_to}
 use Rattle.kdb_gen.proofs.scripts.gen_script.Given as goal
 
 abbrev pub invariant-loop-session : goal.invariant-loop-session
-invariant-loop-session l = l.sessions.items ++ map (session_of l.rounds) (up_to l.session sessions) ≡ map (session_of l.rounds) (range_with_len 1 sessions)
+invariant-loop-session l =
+    l.sessions.items ++ map (session_of l.rounds) (up_to l.session sessions) ≡ map (session_of l.rounds) (range_with_len 1 sessions)

@@ -6,4 +6,5 @@ use Rattle.kdb_gen.proofs.RangeLemmas.{up_to}
 use Rattle.kdb_gen.proofs.scripts.steps_of.Given as goal
 
 abbrev pub invariant-loop-round : goal.invariant-loop-round
-invariant-loop-round l = l.steps.items ++ flat_map (round_of l.rounds l.session) (up_to l.round l.rounds) ≡ steps_of l.rounds l.session
+invariant-loop-round l =
+    l.steps.items ++ flat_map (round_of l.rounds l.session) (up_to l.round l.rounds) ≡ steps_of l.rounds l.session

@@ -3,4 +3,5 @@ use Rattle.kdb_handle.proofs.laws.an_undo_of_the_last_commit_gives_the_map_befor
 use Rattle.model_store.specs.Store.{formats_of}
 
 pub returns : goal.returns
-returns g c files old new number commit aside keys after undone = undoes_last (formats_of g.F.Formats) files old new number commit aside keys after undone
+returns g c files old new number commit aside keys after undone =
+    undoes_last (formats_of g.F.Formats) files old new number commit aside keys after undone

@@ -15,4 +15,5 @@ returns-in_ok-copy-in-Some c =
     (done ∙ ap (λ (k : KeyMap). with_all k c.args.keys.now) c.in_ok-copy-in-Some.ensures) name) c.append_all.ensures.ok
 
 pub returns-in-None : goal.returns-in-None
-returns-in-None c = kept-none (record_of c.args.rec.now) c.args.mount c.args.keys.now (sym c.kept.ensures ∙ ap option_copied c.in-None.is)
+returns-in-None c =
+    kept-none (record_of c.args.rec.now) c.args.mount c.args.keys.now (sym c.kept.ensures ∙ ap option_copied c.in-None.is)

@@ -7,4 +7,5 @@ use Rattle.model_lines.specs.Lines.{ended}
 use Rattle.kdb_print.proofs.change_lines.push_changes.Given as goal
 
 abbrev pub invariant-loop-change : goal.invariant-loop-change
-invariant-loop-change l = string_bytes l.text ≡ string_bytes l.fn.text ++ ended (flat_map (λ change. lines_of_change (change_of change)) (take l.change-index l.changes))
+invariant-loop-change l =
+    string_bytes l.text ≡ string_bytes l.fn.text ++ ended (flat_map (λ change. lines_of_change (change_of change)) (take l.change-index l.changes))

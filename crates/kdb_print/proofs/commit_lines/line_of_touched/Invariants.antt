@@ -7,4 +7,5 @@ use Rattle.model_quoting.specs.Quoted.{shown}
 use Rattle.kdb_print.proofs.commit_lines.line_of_touched.Given as goal
 
 abbrev pub invariant-loop-number : goal.invariant-loop-number
-invariant-loop-number l = string_bytes l.line ≡ codes "touched" ++ flat_map (λ point. 32 ∷ shown point) (points_of l.mounts (take l.number-index l.touched))
+invariant-loop-number l =
+    string_bytes l.line ≡ codes "touched" ++ flat_map (λ point. 32 ∷ shown point) (points_of l.mounts (take l.number-index l.touched))

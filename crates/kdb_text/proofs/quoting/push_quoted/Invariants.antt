@@ -5,4 +5,5 @@ use Rattle.model_quoting.specs.Quoted.{quoted_byte}
 use Rattle.kdb_text.proofs.quoting.push_quoted.Given as goal
 
 abbrev pub invariant-loop-letter : goal.invariant-loop-letter
-invariant-loop-letter l = string_bytes l.line ≡ string_bytes l.initial.line ++ flat_map quoted_byte (encode_utf8_all l.yielded)
+invariant-loop-letter l =
+    string_bytes l.line ≡ string_bytes l.initial.line ++ flat_map quoted_byte (encode_utf8_all l.yielded)

@@ -20,14 +20,16 @@ returns-in-Ok g c =
       is = c.play_on-played.ensures;
       disk = c.end_played.ensures.disk;
       patterns = c.end_played.ensures.patterns;
-      told = subst (λ (mounts : List Mount). AnswersWith mounts (sessions_of script) script commits played.transcripts answer) c.in-Ok.ensures.mounts
+      told =
+          subst (λ (mounts : List Mount). AnswersWith mounts (sessions_of script) script commits played.transcripts answer) c.in-Ok.ensures.mounts
           (subst (λ (sessions : List ℕ). AnswersWith names.mounts sessions script commits played.transcripts answer) c.in-Ok.ensures.sessions c.end_played.ensures.told);
     }
 
 pub returns-in-Err : goal.returns-in-Err
 returns-in-Err g c = record {
   played = record { closed = c.close-disk.result; transcripts = None };
-  is = unplayed formats g.D.Disk g.P.Patterns.refusals c.args.plan.mounted c.args.script.now c.args.core c.close-disk.result (c.requires.open.world (λ h. no_keys)) c.close-disk.ensures.history c.close-disk.ensures.patterns
+  is =
+      unplayed formats g.D.Disk g.P.Patterns.refusals c.args.plan.mounted c.args.script.now c.args.core c.close-disk.result (c.requires.open.world (λ h. no_keys)) c.close-disk.ensures.history c.close-disk.ensures.patterns
       c.close-disk.ensures.left_alone c.close-disk.ensures.shown c.close-disk.ensures.calm c.close-disk.ensures.always c.close-disk.ensures.now c.close-disk.ensures.goes;
   disk = c.given_back.ensures;
   patterns = refl;

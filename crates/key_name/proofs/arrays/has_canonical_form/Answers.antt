@@ -10,7 +10,8 @@ pub returns-then-lead-eq1 : goal.returns-then-lead-eq1
 returns-then-lead-eq1 c =
     let count = length c.args.digits.now in
     let lead = length c.args.part.now - count in
-    eq-eqb lead 1 c.if-lead-eq1.true ∙ sym (form-lead c.args.part.now c.args.digits.now c.requires.like c.requires.digits ∙ ap₂ (λ i l. i && (l || (lead == count))) (sym c.is_index.ensures ∙ c.if-is_index.true) (eq-eqb lead 1 c.if-lead-eq1.true))
+    eq-eqb lead 1 c.if-lead-eq1.true
+    ∙ sym (form-lead c.args.part.now c.args.digits.now c.requires.like c.requires.digits ∙ ap₂ (λ i l. i && (l || (lead == count))) (sym c.is_index.ensures ∙ c.if-is_index.true) (eq-eqb lead 1 c.if-lead-eq1.true))
 
 pub returns-else-lead-eq1 : goal.returns-else-lead-eq1
 returns-else-lead-eq1 c =
@@ -22,4 +23,5 @@ pub returns-else-is_index : goal.returns-else-is_index
 returns-else-is_index c =
     let count = length c.args.digits.now in
     let lead = length c.args.part.now - count in
-    c.if-is_index.false ∙ sym (form-lead c.args.part.now c.args.digits.now c.requires.like c.requires.digits ∙ ap (λ i. i && ((lead == 1) || (lead == count))) (sym c.is_index.ensures ∙ c.if-is_index.false))
+    c.if-is_index.false
+    ∙ sym (form-lead c.args.part.now c.args.digits.now c.requires.like c.requires.digits ∙ ap (λ i. i && ((lead == 1) || (lead == count))) (sym c.is_index.ensures ∙ c.if-is_index.false))

@@ -15,4 +15,5 @@ pub returns-else-is_index : goal.returns-else-is_index
 returns-else-is_index c =
     let count = length c.args.digits.now in
     let lead = length c.args.part.now - count in
-    c.if-is_index.false ∙ sym (canonical-lead c.args.part.now c.args.digits.now c.requires.like c.requires.digits ∙ ap (λ i. i && (lead == count)) (sym c.is_index.ensures ∙ c.if-is_index.false))
+    c.if-is_index.false
+    ∙ sym (canonical-lead c.args.part.now c.args.digits.now c.requires.like c.requires.digits ∙ ap (λ i. i && (lead == count)) (sym c.is_index.ensures ∙ c.if-is_index.false))

@@ -10,7 +10,9 @@ returns-in-Some-clause-parts c =
     let text = c.args.text.now in
     let letter = c.args.letter in
     let found = split_once_first letter text (Some (c.in-Some.part, c.in-Some.rest)) c.in-Some.ensures.cases c.requires in
-    slice_split_first (λ (b : ℕ). b == letter) text 0 found.0 ∙ ap₂ (λ part rest. part ∷ slice_split (λ (b : ℕ). b == letter) rest) (sym found.1) (sym found.2)
+    slice_split_first (λ (b : ℕ). b == letter) text 0 found.0
+    ∙ ap₂ (λ part rest. part ∷ slice_split (λ (b : ℕ). b == letter) rest) (sym found.1) (sym found.2)
 
 pub returns-in-None-clause-parts : goal.returns-in-None-clause-parts
-returns-in-None-clause-parts c = split-none c.args.letter c.args.text.now (split_parts c.args.letter c.args.text.now None c.in-None.ensures.cases c.requires)
+returns-in-None-clause-parts c =
+    split-none c.args.letter c.args.text.now (split_parts c.args.letter c.args.text.now None c.in-None.ensures.cases c.requires)

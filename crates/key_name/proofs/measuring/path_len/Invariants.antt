@@ -4,4 +4,5 @@ use Rattle.model_names.specs.Spelling.{spelled}
 use Rattle.key_name.proofs.measuring.path_len.Given as goal
 
 abbrev pub invariant-loop-part : goal.invariant-loop-part
-invariant-loop-part l = l.bytes ≡ length (flat_map (λ p. 47 ∷ spelled p) (map (λ part. string_bytes part) (take l.part-index l.parts)))
+invariant-loop-part l =
+    l.bytes ≡ length (flat_map (λ p. 47 ∷ spelled p) (map (λ part. string_bytes part) (take l.part-index l.parts)))

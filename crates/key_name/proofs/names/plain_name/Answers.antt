@@ -7,7 +7,8 @@ use Rattle.key_name.specs.Raws.{text_behind}
 use Rattle.key_name.proofs.PlainLemmas.{Spells-plain, path-plain, plain_found}
 use Rattle.key_name.proofs.names.plain_name.Goals as goal
 
-spells : (c : goal.In-Some) → Spells (text_behind c.args.namespace c.args.path.now) (record { namespace = c.args.namespace; parts = c.in-Some.parts })
+spells : (c : goal.In-Some)
+    → Spells (text_behind c.args.namespace c.args.path.now) (record { namespace = c.args.namespace; parts = c.in-Some.parts })
 spells c =
     let found = plain_found c.args.path.now c.in-Some.parts (sym c.in-Some.is ∙ c.in_ok-parts.ensures) in
     subst (λ (parts : List Part). Spells (text_behind c.args.namespace c.args.path.now) (record { namespace = c.args.namespace; parts = parts })) (sym found.1) (Spells-plain c.args.namespace c.args.path.now c.utf8.path found.0 (omega arith))

@@ -23,7 +23,10 @@ path_len-bytes-requires c =
     omega (arith, same, c.requires, path_can_be_counted c.args.path.now _ c.in_ok-parts.ensures.leads)
 
 -- the text spells the name of the parts that were read, and of the same in one text
-spells : (namespace : Namespace) (path : List ℕ) (read parts : List Part) → IsUtf8 path → position (λ b. b == 0) (text_behind namespace path) ≡ None → walked [] (raw_parts path) ≡ Some read → length (path_of_parts read) ≤ longest_path → parts ≡ read → Spells (text_behind namespace path) (record { namespace = namespace; parts = parts })
+spells : (namespace : Namespace) (path : List ℕ) (read parts : List Part) → IsUtf8 path
+    → position (λ b. b == 0) (text_behind namespace path) ≡ None → walked [] (raw_parts path) ≡ Some read
+    → length (path_of_parts read) ≤ longest_path → parts ≡ read
+    → Spells (text_behind namespace path) (record { namespace = namespace; parts = parts })
 spells namespace path read parts utf8 no_nul leads short same =
     subst (λ (parts : List Part). Spells (text_behind namespace path) (record { namespace = namespace; parts = parts })) (sym same) (Spells-found (text_behind namespace path) path (record { namespace = namespace; parts = read }) refl (utf8_behind namespace path utf8) no_nul leads short)
 

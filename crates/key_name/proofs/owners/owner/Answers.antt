@@ -9,4 +9,5 @@ returns-then-is_below_or_same c =
     owner_of-last c.args.points.now c.args.name.now c.requires (c.loop-i.i - 1) point (omega (arith, c.loop-i.invariant.within)) c.index-points-i.is (sym c.is_below_or_same.ensures.test ∙ c.if-is_below_or_same.true) (λ k d le lt. c.loop-i.invariant.none_behind k d (omega arith) lt)
 
 pub returns : goal.returns
-returns c = sym (owner_of-none c.args.points.now c.args.name.now (λ k d lt. c.loop-i.invariant.none_behind k d (omega arith) lt))
+returns c =
+    sym (owner_of-none c.args.points.now c.args.name.now (λ k d lt. c.loop-i.invariant.none_behind k d (omega arith) lt))

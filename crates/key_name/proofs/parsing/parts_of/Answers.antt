@@ -10,7 +10,8 @@ use Rattle.key_name.proofs.PlainLemmas.{no_nul_before, nul_behind}
 use Rattle.key_name.proofs.parsing.parts_of.Goals as goal
 
 -- the path begins behind the word and the slash
-lead_is : (namespace : Namespace) (word path : List ℕ) → word ≡ word_of namespace → length word + 1 + length path - length path ≡ length (word_of namespace) + 1
+lead_is : (namespace : Namespace) (word path : List ℕ) → word ≡ word_of namespace
+    → length word + 1 + length path - length path ≡ length (word_of namespace) + 1
 lead_is namespace word path e = let same = ap length e in omega (arith, same)
 
 pub returns-in-Some-clause-refused : goal.returns-in-Some-clause-refused

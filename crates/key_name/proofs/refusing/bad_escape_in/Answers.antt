@@ -3,7 +3,11 @@ use Rattle.key_name.proofs.PassLemmas.{bad_letter, bad_letter_from, bad_letter_f
 use Rattle.key_name.proofs.refusing.bad_escape_in.Goals as goal
 
 pub loop-i-init : goal.loop-i-init
-loop-i-init c = record { so_far = let same : c.args.at ≡ c.args.at + 0 = omega arith in ap (λ place. bad_letter place c.args.text.now) same; behind = λ e. absurd (cc) }
+loop-i-init c =
+    record {
+      so_far = let same : c.args.at ≡ c.args.at + 0 = omega arith in ap (λ place. bad_letter place c.args.text.now) same;
+      behind = λ e. absurd (cc);
+    }
 
 pub loop-i-preserved : goal.loop-i-preserved
 loop-i-preserved c =

@@ -8,4 +8,5 @@ returns-then-is_bad_array c =
 
 pub loop-raw-preserved : goal.loop-raw-preserved
 loop-raw-preserved c =
-    c.loop-raw.invariant ∙ bad_arrays-next c.args.raws.now c.loop-raw.raw-index c.raw-item.result c.raw-item.is c.loop-raw-test.true (sym c.is_bad_array.ensures ∙ c.if-is_bad_array.false)
+    c.loop-raw.invariant
+    ∙ bad_arrays-next c.args.raws.now c.loop-raw.raw-index c.raw-item.result c.raw-item.is c.loop-raw-test.true (sym c.is_bad_array.ensures ∙ c.if-is_bad_array.false)

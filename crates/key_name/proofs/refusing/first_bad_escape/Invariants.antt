@@ -5,4 +5,5 @@ use Rattle.key_name.specs.Raws.{with_places}
 use Rattle.key_name.proofs.refusing.first_bad_escape.Given as goal
 
 abbrev pub invariant-loop-raw : goal.invariant-loop-raw
-invariant-loop-raw l = first_some bad_escape (with_places l.raws) ≡ first_some bad_escape (with_places (drop l.raw-index l.raws))
+invariant-loop-raw l =
+    first_some bad_escape (with_places l.raws) ≡ first_some bad_escape (with_places (drop l.raw-index l.raws))

@@ -10,4 +10,5 @@ pub loop-letter-preserved : goal.loop-letter-preserved
 loop-letter-preserved c =
     let letter = flat_map escaped (encode_utf8 c.in-Some.letter) in
     let before = ap (λ text. text ++ letter) c.loop-letter.invariant ∙ append_assoc (string_bytes c.args.text.now) _ letter in
-    c.in_ok-push_letter.ensures ∙ before ∙ ap (λ bytes. string_bytes c.args.text.now ++ bytes) (sym (flat_map-escaped-push c.loop-letter.yielded c.in-Some.letter))
+    c.in_ok-push_letter.ensures ∙ before
+    ∙ ap (λ bytes. string_bytes c.args.text.now ++ bytes) (sym (flat_map-escaped-push c.loop-letter.yielded c.in-Some.letter))

@@ -5,4 +5,5 @@ use Rattle.model_names.specs.Spelling.{escaped}
 use Rattle.key_name.proofs.spelling.push_letters.Given as goal
 
 abbrev pub invariant-loop-letter : goal.invariant-loop-letter
-invariant-loop-letter l = string_bytes l.text ≡ string_bytes l.initial.text ++ flat_map escaped (encode_utf8_all l.yielded)
+invariant-loop-letter l =
+    string_bytes l.text ≡ string_bytes l.initial.text ++ flat_map escaped (encode_utf8_all l.yielded)

@@ -4,4 +4,5 @@ use Rattle.model_names.specs.Spelling.{spelled}
 use Rattle.key_name.proofs.spelling.push_path.Given as goal
 
 abbrev pub invariant-loop-part : goal.invariant-loop-part
-invariant-loop-part l = string_bytes l.text ++ flat_map (λ p. 47 ∷ spelled p) l.part-iterator ≡ string_bytes l.initial.text ++ flat_map (λ p. 47 ∷ spelled p) l.parts
+invariant-loop-part l =
+    string_bytes l.text ++ flat_map (λ p. 47 ∷ spelled p) l.part-iterator ≡ string_bytes l.initial.text ++ flat_map (λ p. 47 ∷ spelled p) l.parts

@@ -5,4 +5,5 @@ use Rattle.key_name.proofs.WalkLemmas.{Leads}
 use Rattle.key_name.proofs.walking.without_escapes.Given as goal
 
 abbrev pub invariant-loop-letter : goal.invariant-loop-letter
-invariant-loop-letter l = (left part : List ℕ) → unescaped (encode_utf8_all l.yielded ++ left) ≡ Some part → Leads l.waits (string_bytes l.text) left part
+invariant-loop-letter l =
+    (left part : List ℕ) → unescaped (encode_utf8_all l.yielded ++ left) ≡ Some part → Leads l.waits (string_bytes l.text) left part

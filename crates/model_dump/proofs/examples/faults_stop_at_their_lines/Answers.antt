@@ -9,7 +9,8 @@ use Rattle.model_dump.proofs.Begins.{Begins-start}
 use Rattle.model_dump.proofs.examples.faults_stop_at_their_lines.Goals as goal
 
 -- behind the sizes 1 and 2 the second text takes a line feed away, and then none ends it
-no_second_end : (r : Record) (x : List ℕ) → IsSized r → codes "$key string 1 2\na\n1\n$end\n" ≡ spelled_record r ++ x → ⊥
+no_second_end : (r : Record) (x : List ℕ) → IsSized r → codes "$key string 1 2\na\n1\n$end\n" ≡ spelled_record r ++ x
+    → ⊥
 unfolding digits
 no_second_end r x sized e =
     let sizes = spelled_record-lengths r KeyKind x 1 2 (codes "a\n1\n$end\n") sized (lit< tt) (lit< tt) (sym e) in
@@ -25,7 +26,8 @@ too_short r x sized e =
     let sizes = spelled_record-lengths r KeyKind x 1 5 (codes "a\nab\n") sized (lit< tt) (lit< tt) (sym e) in
     omega (arith, ap length sizes.3, length-append r.first (10 ∷ (r.second ++ (10 ∷ x))), length-append r.second (10 ∷ x))
 
-no_next : (rest tail : List ℕ) → rest ≡ words_of KeyKind ++ tail → ((r : Record) (x : List ℕ) → IsSized r → rest ≡ spelled_record r ++ x → ⊥) → HasNoNext Adds start rest
+no_next : (rest tail : List ℕ) → rest ≡ words_of KeyKind ++ tail
+    → ((r : Record) (x : List ℕ) → IsSized r → rest ≡ spelled_record r ++ x → ⊥) → HasNoNext Adds start rest
 no_next rest tail e none = record {
   no_record = λ r after more sized step. none r more sized;
   no_end = λ is. words-ending KeyKind tail [] (sym e ∙ is);

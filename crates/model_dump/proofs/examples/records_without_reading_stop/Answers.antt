@@ -23,9 +23,12 @@ use Rattle.model_dump.proofs.examples.records_without_reading_stop.Goals as goal
 use Rattle.general_words.proofs.Lists.{some_is, none_is_no_some}
 
 -- behind the key `/a` = `1` stands this record
-behind_a : (r : Record) (more bytes : List ℕ) → bytes ≡ codes "kdbOpen 2\n$key string 1 1\na\n1\n" ++ (spelled_record r ++ more) → Begins Adds bytes (record_a ∷ []) after_a (spelled_record r ++ more)
+behind_a : (r : Record) (more bytes : List ℕ)
+    → bytes ≡ codes "kdbOpen 2\n$key string 1 1\na\n1\n" ++ (spelled_record r ++ more)
+    → Begins Adds bytes (record_a ∷ []) after_a (spelled_record r ++ more)
 unfolding digits
-behind_a r more bytes e = Begins-more Adds bytes [] start after_a record_a (spelled_record r ++ more) (Begins-start Adds bytes _ e) (small record_a (lit< tt) (lit< tt)) adds_a
+behind_a r more bytes e =
+    Begins-more Adds bytes [] start after_a record_a (spelled_record r ++ more) (Begins-start Adds bytes _ e) (small record_a (lit< tt) (lit< tt)) adds_a
 
 -- a second key of the same name
 abbrev again : Record

@@ -23,10 +23,12 @@ use Rattle.model_maps.proofs.MapLemmas.{weight-insert, weight-no_keys, weight_of
 use Rattle.model_dump.proofs.examples.small_dumps_read.Goals as goal
 
 pub returns-clause-no_line_feed : goal.returns-clause-no_line_feed
-returns-clause-no_line_feed c = inr (record { records = []; progress = start; rest = codes "$end"; begins = Begins-start Adds _ _ refl; ends = inl refl; made = refl })
+returns-clause-no_line_feed c =
+    inr (record { records = []; progress = start; rest = codes "$end"; begins = Begins-start Adds _ _ refl; ends = inl refl; made = refl })
 
 pub returns-clause-no_records : goal.returns-clause-no_records
-returns-clause-no_records c = inr (record { records = []; progress = start; rest = codes "$end\n"; begins = Begins-start Adds _ _ refl; ends = inr refl; made = refl })
+returns-clause-no_records c =
+    inr (record { records = []; progress = start; rest = codes "$end\n"; begins = Begins-start Adds _ _ refl; ends = inr refl; made = refl })
 
 abbrev name_b : Name
 name_b = record { namespace = Cascading; parts = codes "b" ∷ [] }
@@ -55,23 +57,31 @@ b_is_new : map.get only_a name_b ≡ None
 b_is_new = map.get-insert name_cmp_total no_keys name_a _ name_b ∙ map.get-empty name_cmp name_b
 
 plain_b_has_a : map.get plain_b name_a ≡ Some (typed (codes "1"))
-plain_b_has_a = map.get-insert name_cmp_total only_a name_b _ name_a ∙ map.get-insert name_cmp_total no_keys name_a _ name_a
+plain_b_has_a =
+    map.get-insert name_cmp_total only_a name_b _ name_a ∙ map.get-insert name_cmp_total no_keys name_a _ name_a
 
 plain_b_has_b : map.get plain_b name_b ≡ Some (plain_entry (codes "2"))
 plain_b_has_b = map.get-insert name_cmp_total only_a name_b _ name_b
 
 -- what they weigh
-typed_weighs : (name : Name) (value : List ℕ) → weight_of_key name (typed value) ≡ weight_of_key name (plain_entry value) + 10
-typed_weighs name value = omega (arith, weight_of_key-meta name (plain_entry value) (codes "type") (codes "string") (map.get-empty text_cmp (codes "type")))
+typed_weighs : (name : Name) (value : List ℕ)
+    → weight_of_key name (typed value) ≡ weight_of_key name (plain_entry value) + 10
+typed_weighs name value =
+    omega (arith, weight_of_key-meta name (plain_entry value) (codes "type") (codes "string") (map.get-empty text_cmp (codes "type")))
 
 only_a_weighs : weight only_a ≡ 77
-only_a_weighs = weight-insert no_keys name_a _ (map.get-empty name_cmp name_a) ∙ ap₂ (λ m n. m + n) weight-no_keys (typed_weighs name_a (codes "1") ∙ ap (λ n. n + 10) (weight_of_key-plain name_a (codes "1")))
+only_a_weighs =
+    weight-insert no_keys name_a _ (map.get-empty name_cmp name_a)
+    ∙ ap₂ (λ m n. m + n) weight-no_keys (typed_weighs name_a (codes "1") ∙ ap (λ n. n + 10) (weight_of_key-plain name_a (codes "1")))
 
 plain_b_weighs : weight plain_b ≡ 144
-plain_b_weighs = weight-insert only_a name_b _ b_is_new ∙ ap₂ (λ m n. m + n) only_a_weighs (weight_of_key-plain name_b (codes "2"))
+plain_b_weighs =
+    weight-insert only_a name_b _ b_is_new ∙ ap₂ (λ m n. m + n) only_a_weighs (weight_of_key-plain name_b (codes "2"))
 
 both_weighs : weight both ≡ 154
-both_weighs = weight-insert only_a name_b _ b_is_new ∙ ap₂ (λ m n. m + n) only_a_weighs (typed_weighs name_b (codes "2") ∙ ap (λ n. n + 10) (weight_of_key-plain name_b (codes "2")))
+both_weighs =
+    weight-insert only_a name_b _ b_is_new
+    ∙ ap₂ (λ m n. m + n) only_a_weighs (typed_weighs name_b (codes "2") ∙ ap (λ n. n + 10) (weight_of_key-plain name_b (codes "2")))
 
 -- the records
 abbrev record_meta : Record
@@ -124,7 +134,8 @@ adds_b = record {
 }
 
 others : ◌≡◌ {A = Option Name} (Some name_b) (Some name_a) → ⊥
-others same = let byte : ◌≡◌ {A = ℕ} 98 97 = ap (λ (name : Option Name). get_or (option_map_or (λ (n : Name). get_or n.parts 0 []) name []) 0 0) same in omega arith
+others same =
+    let byte : ◌≡◌ {A = ℕ} 98 97 = ap (λ (name : Option Name). get_or (option_map_or (λ (n : Name). get_or n.parts 0 []) name []) 0 0) same in omega arith
 
 copies : Adds after_b record_copy after_copy
 copies = record {
@@ -160,4 +171,5 @@ leads =
 
 pub returns-clause-metadata : goal.returns-clause-metadata
 unfolding digits
-returns-clause-metadata c = inr (record { records = records; progress = after_copy; rest = codes "$end\n"; begins = record { leads = leads; whole = refl }; ends = inr refl; made = refl })
+returns-clause-metadata c =
+    inr (record { records = records; progress = after_copy; rest = codes "$end\n"; begins = record { leads = leads; whole = refl }; ends = inr refl; made = refl })

@@ -35,17 +35,22 @@ typed = with_meta (plain_entry (codes "2")) (codes "type") (codes "string")
 abbrev ordered : Entry
 ordered = with_meta typed (codes "order") (codes "#0")
 
-one_entry : map.entries (map.insert no_keys name_sw_a (plain_entry (codes "1"))) ≡ (name_sw_a, plain_entry (codes "1")) ∷ []
-one_entry = map.entries-insert name_cmp_total no_keys name_sw_a (plain_entry (codes "1")) ∙ rw (entries-empty name_cmp Entry)
+one_entry : map.entries (map.insert no_keys name_sw_a (plain_entry (codes "1")))
+    ≡ (name_sw_a, plain_entry (codes "1")) ∷ []
+one_entry =
+    map.entries-insert name_cmp_total no_keys name_sw_a (plain_entry (codes "1")) ∙ rw (entries-empty name_cmp Entry)
 
 b_entry : map.entries (map.insert no_keys name_b ordered) ≡ (name_b, ordered) ∷ []
 b_entry = map.entries-insert name_cmp_total no_keys name_b ordered ∙ rw (entries-empty name_cmp Entry)
 
-two_entries : map.entries (map.insert (map.insert no_keys name_b ordered) root (plain_entry [])) ≡ (root, plain_entry []) ∷ (name_b, ordered) ∷ []
+two_entries : map.entries (map.insert (map.insert no_keys name_b ordered) root (plain_entry []))
+    ≡ (root, plain_entry []) ∷ (name_b, ordered) ∷ []
 two_entries = map.entries-insert name_cmp_total (map.insert no_keys name_b ordered) root (plain_entry []) ∙ rw b_entry
 
 type_entry : map.entries typed.meta ≡ (codes "type", codes "string") ∷ []
-type_entry = map.entries-insert nat_list_cmp_total map.empty (codes "type") (codes "string") ∙ rw (entries-empty text_cmp (List ℕ))
+type_entry =
+    map.entries-insert nat_list_cmp_total map.empty (codes "type") (codes "string")
+    ∙ rw (entries-empty text_cmp (List ℕ))
 
 meta_entries : map.entries ordered.meta ≡ (codes "order", codes "#0") ∷ (codes "type", codes "string") ∷ []
 meta_entries = map.entries-insert nat_list_cmp_total typed.meta (codes "order") (codes "#0") ∙ rw type_entry

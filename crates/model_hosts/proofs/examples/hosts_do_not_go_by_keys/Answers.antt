@@ -11,4 +11,5 @@ pub returns-clause-both : goal.returns-clause-both
 returns-clause-both c = Reads-storable (codes "# c\n1\ta b b # d\r\n#e") a_and_b entry_reads
 
 pub returns-clause-alone : goal.returns-clause-alone
-returns-clause-alone c = λ storable. alias_b_alone (storable alias_b (plain_entry []) (get-insert_same name_cmp_total no_keys alias_b (plain_entry [])))
+returns-clause-alone c =
+    λ storable. alias_b_alone (storable alias_b (plain_entry []) (get-insert_same name_cmp_total no_keys alias_b (plain_entry [])))

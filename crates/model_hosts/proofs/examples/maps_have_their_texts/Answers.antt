@@ -47,14 +47,22 @@ one = finite.entries-insert name_cmp_total no_keys localhost.0 localhost.1 ∙ r
 two : finite.entries (with_key (with_key no_keys localhost) box) ≡ box ∷ localhost ∷ []
 two = finite.entries-insert name_cmp_total (with_key no_keys localhost) box.0 box.1 ∙ rw one
 
-three : finite.entries (with_key (with_key (with_key no_keys localhost) box) box_alias) ≡ box ∷ box_alias ∷ localhost ∷ []
-three = finite.entries-insert name_cmp_total (with_key (with_key no_keys localhost) box) box_alias.0 box_alias.1 ∙ rw two
+three : finite.entries (with_key (with_key (with_key no_keys localhost) box) box_alias)
+    ≡ box ∷ box_alias ∷ localhost ∷ []
+three =
+    finite.entries-insert name_cmp_total (with_key (with_key no_keys localhost) box) box_alias.0 box_alias.1 ∙ rw two
 
-four : finite.entries (with_key (with_key (with_key (with_key no_keys localhost) box) box_alias) six) ≡ box ∷ box_alias ∷ localhost ∷ six ∷ []
-four = finite.entries-insert name_cmp_total (with_key (with_key (with_key no_keys localhost) box) box_alias) six.0 six.1 ∙ rw three
+four : finite.entries (with_key (with_key (with_key (with_key no_keys localhost) box) box_alias) six)
+    ≡ box ∷ box_alias ∷ localhost ∷ six ∷ []
+four =
+    finite.entries-insert name_cmp_total (with_key (with_key (with_key no_keys localhost) box) box_alias) six.0 six.1
+    ∙ rw three
 
-five : finite.entries (with_key (with_key (with_key (with_key (with_key no_keys localhost) box) box_alias) six) six_alias) ≡ box ∷ box_alias ∷ localhost ∷ six ∷ six_alias ∷ []
-five = finite.entries-insert name_cmp_total (with_key (with_key (with_key (with_key no_keys localhost) box) box_alias) six) six_alias.0 six_alias.1 ∙ rw four
+five : finite.entries (with_key (with_key (with_key (with_key (with_key no_keys localhost) box) box_alias) six) six_alias)
+    ≡ box ∷ box_alias ∷ localhost ∷ six ∷ six_alias ∷ []
+five =
+    finite.entries-insert name_cmp_total (with_key (with_key (with_key (with_key no_keys localhost) box) box_alias) six) six_alias.0 six_alias.1
+    ∙ rw four
 
 -- the text with these comments of the three hosts
 abbrev written : List (List ℕ) → List (List ℕ) → List (List ℕ) → List ℕ

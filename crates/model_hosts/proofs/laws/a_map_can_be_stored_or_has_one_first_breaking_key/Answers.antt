@@ -14,7 +14,8 @@ pub returns-clause-one_key : goal.returns-clause-one_key
 returns-clause-one_key c = λ keys. LacksFirst-once (IsHostsKey keys) keys
 
 pub returns-clause-key : goal.returns-clause-key
-returns-clause-key c = λ keys name breaks. (breaks.entry, get-there keys breaks.front name breaks.entry breaks.behind breaks.all, breaks.lacks)
+returns-clause-key c =
+    λ keys name breaks. (breaks.entry, get-there keys breaks.front name breaks.entry breaks.behind breaks.all, breaks.lacks)
 
 pub returns-clause-first : goal.returns-clause-first
 returns-clause-first c = λ keys. LacksFirst-before (IsHostsKey keys) keys

@@ -37,10 +37,13 @@ abbrev c_and_d : KeyMap
 c_and_d = finite.insert only_d (named (codes "c")) (marked (codes " y") (codes "x"))
 
 one_entry : finite.entries only_d ≡ (named (codes "d"), marked [] []) ∷ []
-one_entry = finite.entries-insert name_cmp_total no_keys (named (codes "d")) (marked [] []) ∙ rw (entries-empty name_cmp Entry)
+one_entry =
+    finite.entries-insert name_cmp_total no_keys (named (codes "d")) (marked [] []) ∙ rw (entries-empty name_cmp Entry)
 
-two_entries : finite.entries c_and_d ≡ (named (codes "c"), marked (codes " y") (codes "x")) ∷ (named (codes "d"), marked [] []) ∷ []
-two_entries = finite.entries-insert name_cmp_total only_d (named (codes "c")) (marked (codes " y") (codes "x")) ∙ rw one_entry
+two_entries : finite.entries c_and_d
+    ≡ (named (codes "c"), marked (codes " y") (codes "x")) ∷ (named (codes "d"), marked [] []) ∷ []
+two_entries =
+    finite.entries-insert name_cmp_total only_d (named (codes "c")) (marked (codes " y") (codes "x")) ∙ rw one_entry
 
 pub returns-clause-metadata : goal.returns-clause-metadata
 returns-clause-metadata c = record {

@@ -27,13 +27,18 @@ abbrev c_and_d : KeyMap
 c_and_d = finite.insert only_d (named (codes "c")) (plain_entry (codes " y"))
 
 one_entry : finite.entries only_d ≡ (named (codes "d"), plain_entry (codes "p\\q")) ∷ []
-one_entry = finite.entries-insert name_cmp_total no_keys (named (codes "d")) (plain_entry (codes "p\\q")) ∙ rw (entries-empty name_cmp Entry)
+one_entry =
+    finite.entries-insert name_cmp_total no_keys (named (codes "d")) (plain_entry (codes "p\\q"))
+    ∙ rw (entries-empty name_cmp Entry)
 
-two_entries : finite.entries c_and_d ≡ (named (codes "c"), plain_entry (codes " y")) ∷ (named (codes "d"), plain_entry (codes "p\\q")) ∷ []
+two_entries : finite.entries c_and_d
+    ≡ (named (codes "c"), plain_entry (codes " y")) ∷ (named (codes "d"), plain_entry (codes "p\\q")) ∷ []
 two_entries = finite.entries-insert name_cmp_total only_d (named (codes "c")) (plain_entry (codes " y")) ∙ rw one_entry
 
-three_entries : finite.entries (finite.insert c_and_d (named (codes "a=b")) (plain_entry (codes "=x"))) ≡ (named (codes "a=b"), plain_entry (codes "=x")) ∷ (named (codes "c"), plain_entry (codes " y")) ∷ (named (codes "d"), plain_entry (codes "p\\q")) ∷ []
-three_entries = finite.entries-insert name_cmp_total c_and_d (named (codes "a=b")) (plain_entry (codes "=x")) ∙ rw two_entries
+three_entries : finite.entries (finite.insert c_and_d (named (codes "a=b")) (plain_entry (codes "=x")))
+    ≡ (named (codes "a=b"), plain_entry (codes "=x")) ∷ (named (codes "c"), plain_entry (codes " y")) ∷ (named (codes "d"), plain_entry (codes "p\\q")) ∷ []
+three_entries =
+    finite.entries-insert name_cmp_total c_and_d (named (codes "a=b")) (plain_entry (codes "=x")) ∙ rw two_entries
 
 pub returns-clause-no_keys : goal.returns-clause-no_keys
 returns-clause-no_keys c = ap text_of (entries-empty name_cmp Entry)

@@ -7,7 +7,8 @@ use Rattle.model_ini.proofs.SmallFiles.{adds_a, skips, enters}
 use Rattle.model_ini.proofs.examples.small_files_read.Goals as goal
 
 pub returns-clause-no_keys : goal.returns-clause-no_keys
-returns-clause-no_keys c = (no_keys, skips (codes "# a = 1") no_keys refl refl, (no_keys, skips [] no_keys refl refl, refl))
+returns-clause-no_keys c =
+    (no_keys, skips (codes "# a = 1") no_keys refl refl, (no_keys, skips [] no_keys refl refl, refl))
 
 pub returns-clause-one_key : goal.returns-clause-one_key
 returns-clause-one_key c =

@@ -23,7 +23,8 @@ only_below = finite.insert no_keys below (plain_entry (codes "2"))
 one : finite.entries only_below ≡ (below, plain_entry (codes "2")) ∷ []
 one = finite.entries-insert name_cmp_total no_keys below (plain_entry (codes "2")) ∙ rw (entries-empty name_cmp Entry)
 
-both : finite.entries (finite.insert only_below above (plain_entry (codes "1"))) ≡ (above, plain_entry (codes "1")) ∷ (below, plain_entry (codes "2")) ∷ []
+both : finite.entries (finite.insert only_below above (plain_entry (codes "1")))
+    ≡ (above, plain_entry (codes "1")) ∷ (below, plain_entry (codes "2")) ∷ []
 both = finite.entries-insert name_cmp_total only_below above (plain_entry (codes "1")) ∙ rw one
 
 pub returns : goal.returns

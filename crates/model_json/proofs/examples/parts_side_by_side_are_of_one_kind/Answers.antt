@@ -9,8 +9,10 @@ returns-clause-items c = (inl (refl, tt), (inr (refl, (refl, tt)), tt))
 
 pub returns-clause-mixed : goal.returns-clause-mixed
 unfolding digits
-returns-clause-mixed c fits = elim fits.1.0 [ inl names ↦ true≢false names.0 | inr items ↦ let clash : ◌≡◌ {A = ℕ} 120 35 = ap (λ (p : List ℕ). get_or p 0 0) items.1.0 in absurd cc ]
+returns-clause-mixed c fits =
+    elim fits.1.0 [ inl names ↦ true≢false names.0 | inr items ↦ let clash : ◌≡◌ {A = ℕ} 120 35 = ap (λ (p : List ℕ). get_or p 0 0) items.1.0 in absurd cc ]
 
 pub returns-clause-gap : goal.returns-clause-gap
 unfolding digits
-returns-clause-gap c fits = elim fits.1.0 [ inl names ↦ true≢false names.0 | inr items ↦ let clash : ◌≡◌ {A = ℕ} 50 49 = ap (λ (p : List ℕ). get_or p 1 0) items.1.0 in absurd cc ]
+returns-clause-gap c fits =
+    elim fits.1.0 [ inl names ↦ true≢false names.0 | inr items ↦ let clash : ◌≡◌ {A = ℕ} 50 49 = ap (λ (p : List ℕ). get_or p 1 0) items.1.0 in absurd cc ]

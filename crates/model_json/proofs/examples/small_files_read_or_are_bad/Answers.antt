@@ -42,10 +42,13 @@ unfolding serde_json_on_literals
 text-is-read = refl
 
 no-text : (keys : KeyMap) → ReadsObject (codes "\n\"a\"") keys → ⊥
-no-text keys r = let same : object r.members ≡ string (codes "a") = some_is _ _ (sym r.is_object ∙ text-is-read) in absurd cc
+no-text keys r =
+    let same : object r.members ≡ string (codes "a") = some_is _ _ (sym r.is_object ∙ text-is-read) in absurd cc
 
 pub returns-clause-no_value : goal.returns-clause-no_value
-returns-clause-no_value c = (refl, λ keys reads. elim reads [ inl none ↦ let clash = none.0 in absurd cc | inr r ↦ no-null keys r ])
+returns-clause-no_value c =
+    (refl, λ keys reads. elim reads [ inl none ↦ let clash = none.0 in absurd cc | inr r ↦ no-null keys r ])
 
 pub returns-clause-no_object : goal.returns-clause-no_object
-returns-clause-no_object c = (refl, λ keys reads. elim reads [ inl none ↦ let clash = none.0 in absurd cc | inr r ↦ no-text keys r ])
+returns-clause-no_object c =
+    (refl, λ keys reads. elim reads [ inl none ↦ let clash = none.0 in absurd cc | inr r ↦ no-text keys r ])

@@ -9,13 +9,16 @@ use Rattle.model_rules.proofs.SmallTexts.{number_by_test, no_empty_item, no_firs
 use Rattle.model_rules.proofs.examples.texts_that_are_no_ranges.Goals as goal
 
 ten : IsNumber (codes "10") (pos 10)
-ten = number_by_test false (codes "10") refl (lit< tt) (record { above = record { le = tt }; below = record { le = tt } })
+ten =
+    number_by_test false (codes "10") refl (lit< tt) (record { above = record { le = tt }; below = record { le = tt } })
 
 one : IsNumber (codes "1") (pos 1)
-one = number_by_test false (codes "1") refl (lit< tt) (record { above = record { le = tt }; below = record { le = tt } })
+one =
+    number_by_test false (codes "1") refl (lit< tt) (record { above = record { le = tt }; below = record { le = tt } })
 
 no_falling_item : (interval : Interval) → IsItem (codes "10-1") interval → ⊥
-no_falling_item interval (Single l h) = one_front_alone (codes "10-1") (codes "10") (codes "1") (IsNumber-front (codes "10-1") interval.low l) (IsNumber-front (codes "10") (pos 10) ten) refl
+no_falling_item interval (Single l h) =
+    one_front_alone (codes "10-1") (codes "10") (codes "1") (IsNumber-front (codes "10-1") interval.low l) (IsNumber-front (codes "10") (pos 10) ten) refl
 no_falling_item interval (Between first last e f g o) =
     let same = two_parts_once (codes "10") (codes "1") first last (IsNumber-front (codes "10") (pos 10) ten) (IsNumber-front first interval.low f) e in
     let low = IsNumber-once (codes "10") interval.low (pos 10) (subst (λ t. IsNumber t interval.low) (sym same.0) f) ten in

@@ -10,7 +10,9 @@ use Rattle.model_specified.specs.Specified.{default_name}
 use Rattle.model_specified.proofs.examples.a_plain_name_makes_a_default.Goals as goal
 
 pub returns-clause-made : goal.returns-clause-made
-returns-clause-made c = ap (λ (o : Option (List ℕ)). option_to_list (option_map (λ text. (default_name (codes "a" ∷ []), plain_entry text)) o)) (get-insert_same text_cmp-total map.empty (codes "default") (codes "80"))
+returns-clause-made c =
+    ap (λ (o : Option (List ℕ)). option_to_list (option_map (λ text. (default_name (codes "a" ∷ []), plain_entry text)) o)) (get-insert_same text_cmp-total map.empty (codes "default") (codes "80"))
 
 pub returns-clause-without : goal.returns-clause-without
-returns-clause-without c = ap (λ (o : Option (List ℕ)). option_to_list (option_map (λ text. (default_name (codes "a" ∷ []), plain_entry text)) o)) (map.get-empty text_cmp (codes "default"))
+returns-clause-without c =
+    ap (λ (o : Option (List ℕ)). option_to_list (option_map (λ text. (default_name (codes "a" ∷ []), plain_entry text)) o)) (map.get-empty text_cmp (codes "default"))

@@ -42,7 +42,9 @@ entries_are =
     ∙ ap (put name_cmp one (typed (codes "string"))) (map.entries-insert name_cmp_total no_keys any (typed (codes "char")) ∙ ap (put name_cmp any (typed (codes "char"))) (entries-empty name_cmp Entry))
 
 specs_are : map.entries (spec_keys keys) ≡ both
-specs_are = entries-retain name_cmp_total name_cmp-IsAntisymmetric keys (is_at_or_below (spec_name [])) ∙ ap (where_key name_cmp (is_at_or_below (spec_name []))) entries_are
+specs_are =
+    entries-retain name_cmp_total name_cmp-IsAntisymmetric keys (is_at_or_below (spec_name []))
+    ∙ ap (where_key name_cmp (is_at_or_below (spec_name []))) entries_are
 
 get_is : (name : Name) (o : Option Entry) → find name_cmp name both ≡ o → map.get (spec_keys keys) name ≡ o
 get_is name o is = map.get-entries (spec_keys keys) name ∙ ap (find name_cmp name) specs_are ∙ is
@@ -51,20 +53,27 @@ type_is : (type : List ℕ) → map.get (typed type).meta (codes "type") ≡ Som
 type_is type = get-insert_same text_cmp-total map.empty (codes "type") type
 
 -- the type of the first of some specifications
-said : (path : List Part) (specs : List Entry) (type : List ℕ) → specs_of (spec_keys keys) path ≡ specs → first_some (λ spec. map.get spec.meta (codes "type")) specs ≡ Some type → map.get (spec_meta keys path) (codes "type") ≡ Some type
+said : (path : List Part) (specs : List Entry) (type : List ℕ) → specs_of (spec_keys keys) path ≡ specs
+    → first_some (λ spec. map.get spec.meta (codes "type")) specs ≡ Some type
+    → map.get (spec_meta keys path) (codes "type") ≡ Some type
 said path specs type are is =
     get-laid_over (mapped (λ (spec : Entry). spec.meta) (specs_of (spec_keys keys) path)) (codes "type")
     ∙ first_some-map (λ meta. map.get meta (codes "type")) (λ (spec : Entry). spec.meta) (specs_of (spec_keys keys) path)
     ∙ ap (first_some (λ (spec : Entry). map.get spec.meta (codes "type"))) are
     ∙ is
 
-specs_at : (path : List Part) (o : Option Entry) → find name_cmp (spec_name path) both ≡ o → specs_of (spec_keys keys) path ≡ option_to_list o ++ mapped (λ key. key.1) (filter (λ key. is_pattern_of path key.0) both)
-specs_at path o is = ap₂ (λ (p : Option Entry) (es : List (Name × Entry)). option_to_list p ++ mapped (λ key. key.1) (filter (λ key. is_pattern_of path key.0) es)) (get_is (spec_name path) o is) specs_are
+specs_at : (path : List Part) (o : Option Entry) → find name_cmp (spec_name path) both ≡ o
+    → specs_of (spec_keys keys) path
+    ≡ option_to_list o ++ mapped (λ key. key.1) (filter (λ key. is_pattern_of path key.0) both)
+specs_at path o is =
+    ap₂ (λ (p : Option Entry) (es : List (Name × Entry)). option_to_list p ++ mapped (λ key. key.1) (filter (λ key. is_pattern_of path key.0) es)) (get_is (spec_name path) o is) specs_are
 
 pub returns-clause-own : goal.returns-clause-own
-returns-clause-own c = said (codes "a" ∷ []) (typed (codes "string") ∷ typed (codes "char") ∷ []) (codes "string") (specs_at (codes "a" ∷ []) (Some (typed (codes "string"))) refl)
+returns-clause-own c =
+    said (codes "a" ∷ []) (typed (codes "string") ∷ typed (codes "char") ∷ []) (codes "string") (specs_at (codes "a" ∷ []) (Some (typed (codes "string"))) refl)
     (ap (λ o. option_or o (first_some (λ (spec : Entry). map.get spec.meta (codes "type")) (typed (codes "char") ∷ []))) (type_is (codes "string")))
 
 pub returns-clause-other : goal.returns-clause-other
-returns-clause-other c = said (codes "b" ∷ []) (typed (codes "char") ∷ []) (codes "char") (specs_at (codes "b" ∷ []) None refl)
+returns-clause-other c =
+    said (codes "b" ∷ []) (typed (codes "char") ∷ []) (codes "char") (specs_at (codes "b" ∷ []) None refl)
     (ap (λ o. option_or o None) (type_is (codes "char")))

@@ -9,4 +9,5 @@ use Rattle.model_specified.proofs.laws.the_first_specification_key_with_a_name_g
 pub returns : goal.returns
 returns c = λ keys path name.
     let specs = specs_of (spec_keys keys) path in
-    get-laid_over (map (λ (spec : Entry). spec.meta) specs) name ∙ first_some-map (λ meta. finite.get meta name) (λ (spec : Entry). spec.meta) specs
+    get-laid_over (map (λ (spec : Entry). spec.meta) specs) name
+    ∙ first_some-map (λ meta. finite.get meta name) (λ (spec : Entry). spec.meta) specs

@@ -11,7 +11,8 @@ use Rattle.mount_table.proofs.TableLemmas.{is_some-copied}
 use Rattle.mount_table.proofs.entries.note.Goals as goal
 
 pub returns-in-None-clause-noted : goal.returns-in-None-clause-noted
-returns-in-None-clause-noted c = λ _. tells_nothing c.args.keys.now c.args.name.now (map.from_sorted c.args.entries.now) c.in-None.ensures.text
+returns-in-None-clause-noted c =
+    λ _. tells_nothing c.args.keys.now c.args.name.now (map.from_sorted c.args.entries.now) c.in-None.ensures.text
 
 pub returns-then-is_some-clause-noted : goal.returns-then-is_some-clause-noted
 returns-then-is_some-clause-noted c =

@@ -7,4 +7,5 @@ use Rattle.mount_table.proofs.FileLemmas.{file_of-other}
 use Rattle.mount_table.proofs.points.file_of.Goals as goal
 
 pub returns : goal.returns
-returns c = IfOk-weaker c.new.result _ (λ found. found ≡ file_of c.args.text.now) (λ found is. file_of-other c.args.text.now found (ap (λ text. starts_with nat_eq text (codes "journal")) (sym c.as_bytes.ensures.value) ∙ sym c.starts_with.ensures.value ∙ c.if-starts_with.false) is) c.new.ensures.found
+returns c =
+    IfOk-weaker c.new.result _ (λ found. found ≡ file_of c.args.text.now) (λ found is. file_of-other c.args.text.now found (ap (λ text. starts_with nat_eq text (codes "journal")) (sym c.as_bytes.ensures.value) ∙ sym c.starts_with.ensures.value ∙ c.if-starts_with.false) is) c.new.ensures.found

@@ -6,4 +6,5 @@ use Rattle.mount_table.specs.Reading.{is_taken}
 use Rattle.mount_table.proofs.reading.files_of.Given as goal
 
 abbrev pub invariant-loop-mount : goal.invariant-loop-mount
-invariant-loop-mount l = (file : List ℕ) → is_some (find text_cmp file l.files) ≡ is_taken (take l.mount-index l.mounts) file
+invariant-loop-mount l =
+    (file : List ℕ) → is_some (find text_cmp file l.files) ≡ is_taken (take l.mount-index l.mounts) file

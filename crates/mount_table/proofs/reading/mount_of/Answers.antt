@@ -6,7 +6,8 @@ use Rattle.mount_table.proofs.ReadingLemmas.{no_point, no_path, no_file, by_kind
 use Rattle.mount_table.proofs.reading.mount_of.Goals as goal
 
 pub returns-in_default : goal.returns-in_default
-returns-in_default c = λ _. no_point c.args.text.now _ c.args.said.now (sym c.in_default.is ∙ c.in_ok-at.ensures ∙ ap point_of c.as_str.ensures.bytes) c.in_ok-copy.ensures.copied
+returns-in_default c =
+    λ _. no_point c.args.text.now _ c.args.said.now (sym c.in_default.is ∙ c.in_ok-at.ensures ∙ ap point_of c.as_str.ensures.bytes) c.in_ok-copy.ensures.copied
 
 pub returns-in_default-path : goal.returns-in_default-path
 returns-in_default-path c = λ _.

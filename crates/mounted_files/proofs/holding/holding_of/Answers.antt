@@ -13,7 +13,8 @@ use Rattle.key_set.proofs.WholeLemmas.{none_if}
 use Rattle.mounted_files.proofs.holding.holding_of.Goals as goal
 
 pub whole-requires : goal.whole-requires
-whole-requires g c = cascading-limited c.in-Ok.keys (g.F.Formats.read_is_limited c.args.kind c.args.bytes.now c.in-Ok.keys c.in-Ok.ensures)
+whole-requires g c =
+    cascading-limited c.in-Ok.keys (g.F.Formats.read_is_limited c.args.kind c.args.bytes.now c.in-Ok.keys c.in-Ok.ensures)
 
 pub returns-in-Some-clause-is : goal.returns-in-Some-clause-is
 returns-in-Some-clause-is g c few =

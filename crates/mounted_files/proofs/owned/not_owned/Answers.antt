@@ -14,7 +14,8 @@ pub returns-then-len : goal.returns-then-len
 returns-then-len c =
     let keys = c.args.keys.now in
     let is_owned = owns c.args.points.now c.args.i in
-    c.new.ensures ∙ none-fails keys is_owned (ap (λ (k : KeyMap). length (map.entries k)) (sym c.requires.visible) ∙ sym c.len.ensures ∙ c.if-len.true ∙ c.len-2.ensures)
+    c.new.ensures
+    ∙ none-fails keys is_owned (ap (λ (k : KeyMap). length (map.entries k)) (sym c.requires.visible) ∙ sym c.len.ensures ∙ c.if-len.true ∙ c.len-2.ensures)
 
 pub loop-name-init : goal.loop-name-init
 loop-name-init c =

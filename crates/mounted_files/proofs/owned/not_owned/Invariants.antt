@@ -7,4 +7,5 @@ use Rattle.set_split.proofs.PassingLemmas.{with_passing}
 use Rattle.mounted_files.proofs.owned.not_owned.Given as goal
 
 abbrev pub invariant-loop-name : goal.invariant-loop-name
-invariant-loop-name l = with_passing (λ (name : Name). not (owns l.points l.i name)) l.name-iterator l.shadow ≡ not_owned_by l.points l.i l.keys
+invariant-loop-name l =
+    with_passing (λ (name : Name). not (owns l.points l.i name)) l.name-iterator l.shadow ≡ not_owned_by l.points l.i l.keys

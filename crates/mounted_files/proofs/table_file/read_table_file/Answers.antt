@@ -18,19 +18,25 @@ use Rattle.mounted_files.specs.declared.refusals.OpenRefusal.{OpenRefusal}
 use Rattle.mounted_files.proofs.table_file.read_table_file.Goals as goal
 
 module _ (Reads : Reading) (IsBad : Badness) (bytes : List ℕ) where
-  from_table : (keys : KeyMap) (refusal : OpenRefusal) → Holds Reads own_point Dump bytes keys → RefusesTable (table_of keys) refusal → RefusesOpening Reads IsBad bytes refusal
+  from_table : (keys : KeyMap) (refusal : OpenRefusal) → Holds Reads own_point Dump bytes keys
+      → RefusesTable (table_of keys) refusal → RefusesOpening Reads IsBad bytes refusal
   from_table keys refusal holds is other =
       let told = is other in
       subst (λ (r : OpenRefusal). IsOwnFault Reads IsBad bytes r) (sym told.is) (record { keys = keys; holds = holds; is = told.at_fault })
 
-  from_cause : (why : Cause) (refusal : OpenRefusal) → IsRefusalFor why refusal → IsCause Reads IsBad own_point Dump bytes why → RefusesOpening Reads IsBad bytes refusal
-  from_cause (cause.TooLong n) refusal is bad = λ _. subst (λ (r : OpenRefusal). IsOwnFault Reads IsBad bytes r) (sym is) bad
-  from_cause (cause.BadFile line) refusal is bad = λ _. subst (λ (r : OpenRefusal). IsOwnFault Reads IsBad bytes r) (sym is) bad
+  from_cause : (why : Cause) (refusal : OpenRefusal) → IsRefusalFor why refusal
+      → IsCause Reads IsBad own_point Dump bytes why → RefusesOpening Reads IsBad bytes refusal
+  from_cause (cause.TooLong n) refusal is bad =
+      λ _. subst (λ (r : OpenRefusal). IsOwnFault Reads IsBad bytes r) (sym is) bad
+  from_cause (cause.BadFile line) refusal is bad =
+      λ _. subst (λ (r : OpenRefusal). IsOwnFault Reads IsBad bytes r) (sym is) bad
   from_cause (cause.TooHeavy weight) refusal is bad = absurd is
 
   -- what the file holds at the mountpoint of the table's own keys
-  held : (point : Name) (found holding : Holding) → point ≡ own_point → found ≡ holding → IsHolding Reads IsBad point Dump bytes found → IsHolding Reads IsBad own_point Dump bytes holding
-  held point found holding point_is is holds = subst (λ (h : Holding). IsHolding Reads IsBad own_point Dump bytes h) is (subst (λ (p : Name). IsHolding Reads IsBad p Dump bytes found) point_is holds)
+  held : (point : Name) (found holding : Holding) → point ≡ own_point → found ≡ holding
+      → IsHolding Reads IsBad point Dump bytes found → IsHolding Reads IsBad own_point Dump bytes holding
+  held point found holding point_is is holds =
+      subst (λ (h : Holding). IsHolding Reads IsBad own_point Dump bytes h) is (subst (λ (p : Name). IsHolding Reads IsBad p Dump bytes found) point_is holds)
 
 pub returns-in-Ok-clause-read : goal.returns-in-Ok-clause-read
 returns-in-Ok-clause-read g c bytes is_whole =

@@ -9,4 +9,7 @@ use Rattle.mounted_files.proofs.MapLemmas.{key-at}
 use Rattle.mounted_files.proofs.whole.whole.Goals as goal
 
 pub behind-requires : goal.behind-requires
-behind-requires c = record { cascading = all_from_places (λ (key : Name × Entry). key.0.namespace ≡ Cascading) (map.entries c.args.keys) (λ i key there. c.requires key.0 key.1 (key-at c.args.keys i key there)) }
+behind-requires c =
+    record {
+      cascading = all_from_places (λ (key : Name × Entry). key.0.namespace ≡ Cascading) (map.entries c.args.keys) (λ i key there. c.requires key.0 key.1 (key-at c.args.keys i key there));
+    }

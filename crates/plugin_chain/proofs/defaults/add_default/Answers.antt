@@ -7,7 +7,10 @@ use Rattle.plugin_chain.proofs.SetLemmas.{no_default, one_default}
 use Rattle.plugin_chain.proofs.defaults.add_default.Goals as goal
 
 pub returns-then-has_glob : goal.returns-then-has_glob
-returns-then-has_glob c = record { ok = no_default (c.args.name.now, entry_of c.args.entry.now) c.args.keys.now c.has_glob.result c.has_glob.ensures c.if-has_glob.true }
+returns-then-has_glob c =
+    record {
+      ok = no_default (c.args.name.now, entry_of c.args.entry.now) c.args.keys.now c.has_glob.result c.has_glob.ensures c.if-has_glob.true;
+    }
 
 pub returns : goal.returns
 returns c =

@@ -11,4 +11,5 @@ loop-layer-preserved c =
     lay_next c.in-Some.others.now c.loop-layer.layer-index c.layer-item.result c.loop-layer.meta c.lay_over.new.meta _ (omega arith) c.layer-item.is (c.in_ok-lay_over.ensures.ok ∙ ap (λ m. laid_over (c.loop-layer.meta ∷ m ∷ [])) c.meta-in-loop-layer.ensures) c.loop-layer.invariant
 
 pub returns : goal.returns
-returns c = lay_last c.in-Some.others.now c.loop-layer.layer-index c.loop-layer.meta _ (omega arith) c.loop-layer.invariant
+returns c =
+    lay_last c.in-Some.others.now c.loop-layer.layer-index c.loop-layer.meta _ (omega arith) c.loop-layer.invariant

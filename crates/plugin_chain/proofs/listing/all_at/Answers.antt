@@ -12,7 +12,8 @@ loop-name-init g c =
     let start = g.P.Patterns.refusals c.args.patterns.now in
     let all = finite.entries c.args.made.now in
     record {
-      reached = subst (λ list. Reached (HasRisen start start) c.args.specs.now (is_within c.args.at.now) all c.into_iter-name-iterator.result list) (sym c.new-list.ensures.items)
+      reached =
+          subst (λ list. Reached (HasRisen start start) c.args.specs.now (is_within c.args.at.now) all c.into_iter-name-iterator.result list) (sym c.new-list.ensures.items)
           (subst (λ keys. Reached (HasRisen start start) c.args.specs.now (is_within c.args.at.now) all keys []) (sym (c.into_iter-name-iterator.ensures.into_iter_gives ∙ c.iter-name-items.ensures)) (reached_first (HasRisen start start) c.args.specs.now (is_within c.args.at.now) all));
       later = omega arith;
     }
@@ -25,7 +26,8 @@ loop-name-preserved g c =
     let earlier = c.loop-name.invariant.later in
     let later = c.check_if.ensures.later in
     record {
-      reached = reached_next (HasRisen start before) (HasRisen before after) (HasRisen start after) c.args.specs.now (is_within c.args.at.now) (finite.entries c.args.made.now)
+      reached =
+          reached_next (HasRisen start before) (HasRisen before after) (HasRisen start after) c.args.specs.now (is_within c.args.at.now) (finite.entries c.args.made.now)
           c.loop-name.name-iterator c.next.new.self (c.in-Some.name.now, entry_of c.in-Some.entry.now) c.in_ok-is_chosen.is_chosen c.loop-name.list.items c.check_if.new.list.items
           c.in-Some.ensures.steps c.in_ok-is_chosen.ensures
           (risen_still start before after earlier later) (risen_since start before after earlier)

@@ -46,7 +46,8 @@ loop-name-preserved g c =
     let earlier = c.loop-name.invariant.later in
     let later = c.check_if.ensures.later in
     record {
-      reached = subst (λ list. Reached (HasRisen start after) c.args.specs.now (is_owned c.args.points.now c.args.touched.now) (finite.entries c.args.made.now) c.next.new.self list)
+      reached =
+          subst (λ list. Reached (HasRisen start after) c.args.specs.now (is_owned c.args.points.now c.args.touched.now) (finite.entries c.args.made.now) c.next.new.self list)
           (no_first c.check_if.new.list.items (sym c.in_default.is ∙ c.first_of.ensures))
           (reached_next_from (HasRisen start before) (HasRisen before after) (HasRisen start after) c.args.specs.now (is_owned c.args.points.now c.args.touched.now) (finite.entries c.args.made.now)
           c.loop-name.name-iterator c.next.new.self (c.in-Some.name.now, entry_of c.in-Some.entry.now) c.is_touched-is_chosen.result c.new-own.result.items c.check_if.new.list.items

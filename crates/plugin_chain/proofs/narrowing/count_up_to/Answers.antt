@@ -12,7 +12,8 @@ returns c =
     (c.partition_point.ensures.partitioned (λ glob. is_le (beside c.args.depth c.args.word.now glob)) (always_returns_same _ _ _ (λ a r f called. search rules)))
 
 pub returns-then-is_empty : goal.returns-then-is_empty
-returns-then-is_empty c = splits_empty (λ glob. is_le (beside c.args.depth c.args.word.now glob)) c.args.globs.now (sym c.is_empty.ensures ∙ c.if-is_empty.true)
+returns-then-is_empty c =
+    splits_empty (λ glob. is_le (beside c.args.depth c.args.word.now glob)) c.args.globs.now (sym c.is_empty.ensures ∙ c.if-is_empty.true)
 
 pub returns-then-not-is_up_to : goal.returns-then-not-is_up_to
 returns-then-not-is_up_to c =

@@ -2,7 +2,8 @@ use Rattle.plugin_chain.proofs.RisingLemmas.{cut_is, rising_rest}
 use Rattle.plugin_chain.proofs.narrowing.cut_out.Goals as goal
 
 pub count_up_to-requires : goal.count_up_to-requires
-count_up_to-requires c = rising_rest c.args.depth c.count_below.result c.args.globs.now c.split_at.result.1.now c.split_at.ensures.back c.requires
+count_up_to-requires c =
+    rising_rest c.args.depth c.count_below.result c.args.globs.now c.split_at.result.1.now c.split_at.ensures.back c.requires
 
 pub returns : goal.returns
 returns c =

@@ -5,7 +5,8 @@ use Rattle.plugin_chain.proofs.OneNameLemmas.{default_first, else_own}
 use Rattle.plugin_chain.proofs.one_name.entry_at.Goals as goal
 
 pub returns-in-Some : goal.returns-in-Some
-returns-in-Some c = default_first c.args.keys.now c.args.name.now (entry_of c.in-Some.default) (ap (option_map entry_of) (sym c.in-Some.is) ∙ c.in_ok-default.ensures)
+returns-in-Some c =
+    default_first c.args.keys.now c.args.name.now (entry_of c.in-Some.default) (ap (option_map entry_of) (sym c.in-Some.is) ∙ c.in_ok-default.ensures)
 
 pub returns-in_ok-copy-in-Some-lookup : goal.returns-in_ok-copy-in-Some-lookup
 returns-in_ok-copy-in-Some-lookup c =

@@ -10,4 +10,5 @@ returns-in_ok-specified_alone-in-Some c =
     (ap (option_map entry_of) (sym c.in-Some.is) ∙ c.in_ok-entry.ensures) c.in_ok-specified_alone-in-Some.ensures
 
 pub returns-in-None : goal.returns-in-None
-returns-in-None c = specified_none c.args.keys.now c.args.name.now (ap (option_map entry_of) (sym c.in-None.is) ∙ c.in_ok-entry.ensures)
+returns-in-None c =
+    specified_none c.args.keys.now c.args.name.now (ap (option_map entry_of) (sym c.in-None.is) ∙ c.in_ok-entry.ensures)

@@ -7,4 +7,5 @@ use Rattle.plugin_chain.specs.Globs.{seen}
 use Rattle.plugin_chain.proofs.spec_index.globs_of.Given as goal
 
 abbrev pub invariant-loop-name : goal.invariant-loop-name
-invariant-loop-name l = map seen l.globs.items ++ filter (λ key. has_glob key.0.parts) l.name-iterator ≡ filter (λ key. has_glob key.0.parts) (finite.entries l.keys)
+invariant-loop-name l =
+    map seen l.globs.items ++ filter (λ key. has_glob key.0.parts) l.name-iterator ≡ filter (λ key. has_glob key.0.parts) (finite.entries l.keys)

@@ -8,4 +8,5 @@ use Rattle.plugin_chain.proofs.SpecLemmas.{metas_of}
 use Rattle.plugin_chain.proofs.spec_metas.layers_of.Given as goal
 
 abbrev pub invariant-loop-glob : goal.invariant-loop-glob
-invariant-loop-glob l = laid_over (laid l.layers.items ∷ metas_of l.path.parts (map seen (lent (into_iter_items l.glob-iterator)))) ≡ said_of l.specs l.path.parts
+invariant-loop-glob l =
+    laid_over (laid l.layers.items ∷ metas_of l.path.parts (map seen (lent (into_iter_items l.glob-iterator)))) ≡ said_of l.specs l.path.parts

@@ -16,4 +16,5 @@ loop-name-preserved c =
     c.in-Some.ensures.steps c.in_ok-changed.ensures c.in_ok-set_changed.ensures.ok c.loop-name.invariant
 
 pub returns : goal.returns
-returns c = stands_last (specified_entry c.args.specs.now) c.loop-name.name-iterator c.loop-name.set c.args.made.now c.in-None.ensures.steps.0 c.loop-name.invariant
+returns c =
+    stands_last (specified_entry c.args.specs.now) c.loop-name.name-iterator c.loop-name.set c.args.made.now c.in-None.ensures.steps.0 c.loop-name.invariant

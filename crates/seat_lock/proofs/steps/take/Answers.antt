@@ -3,4 +3,5 @@ use Rattle.atomic_table.specs.Table.{rest}
 use Rattle.seat_lock.proofs.steps.take.Goals as goal
 
 pub exchange-requires : goal.exchange-requires
-exchange-requires g c = let t = c.requires.taken in (search rules, (Some t.0, t.1 ∙ ap (λ l. (0, Some t.0) ∷ rest l) (sym t.1)))
+exchange-requires g c =
+    let t = c.requires.taken in (search rules, (Some t.0, t.1 ∙ ap (λ l. (0, Some t.0) ∷ rest l) (sym t.1)))

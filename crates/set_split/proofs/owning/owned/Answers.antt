@@ -6,7 +6,8 @@ use Rattle.set_split.proofs.OwningLemmas.{IsLeft, left-all, left-next, left-owne
 use Rattle.set_split.proofs.owning.owned.Goals as goal
 
 pub returns-then-i-points : goal.returns-then-i-points
-returns-then-i-points c = owned-beyond c.args.points.now c.args.i c.args.keys.now c.new.result (omega arith) c.new.ensures
+returns-then-i-points c =
+    owned-beyond c.args.points.now c.args.i c.args.keys.now c.new.result (omega arith) c.new.ensures
 
 pub loop-other-init : goal.loop-other-init
 loop-other-init c = λ point there.

@@ -5,4 +5,5 @@ use Rattle.set_split.proofs.OwningLemmas.{IsLeft}
 use Rattle.set_split.proofs.owning.owned.Given as goal
 
 abbrev pub invariant-loop-other : goal.invariant-loop-other
-invariant-loop-other l = (point : Name) → point ≡ get_or l.points l.i point → IsLeft l.points l.i point l.keys (take l.other-index l.behind) l.owned
+invariant-loop-other l =
+    (point : Name) → point ≡ get_or l.points l.i point → IsLeft l.points l.i point l.keys (take l.other-index l.behind) l.owned

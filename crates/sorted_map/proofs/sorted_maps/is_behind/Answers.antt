@@ -12,4 +12,5 @@ returns-in-Some g c said =
     (subst T (c.is_lt.ensures ∙ ap is_lt c.cmp.ensures ∙ ap (λ entry. is_lt (R entry.0 c.args.key.now)) (last.1 c.in-Some.last.now)) said)
 
 pub returns-in-None : goal.returns-in-None
-returns-in-None g c said = gap_of_none g.K.Ord.cmp g.met.K.Ord.total c.args.key.now c.args.entries.now (omega (arith, c.in-None.ensures.item.3))
+returns-in-None g c said =
+    gap_of_none g.K.Ord.cmp g.met.K.Ord.total c.args.key.now c.args.entries.now (omega (arith, c.in-None.ensures.item.3))

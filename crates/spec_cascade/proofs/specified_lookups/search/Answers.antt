@@ -5,5 +5,6 @@ use Rattle.spec_cascade.proofs.SaidLemmas.{spec_meta-specified}
 use Rattle.spec_cascade.proofs.specified_lookups.search.Goals as goal
 
 pub returns : goal.returns
-returns c = first_found (specified c.args.keys.now) c.args.path.now.parts c.in_ok-said.said c.in_ok-default.default c.as_slice.result.now c.first_present.result
+returns c =
+    first_found (specified c.args.keys.now) c.args.path.now.parts c.in_ok-said.said c.in_ok-default.default c.as_slice.result.now c.first_present.result
     (c.in_ok-said.ensures ∙ sym (spec_meta-specified c.args.keys.now c.args.path.now.parts)) c.in_ok-default.ensures (c.as_slice.ensures.value ∙ c.in_ok-names.ensures) c.first_present.ensures

@@ -10,7 +10,8 @@ use Rattle.store_core.proofs.HeadLemmas.{files-next, files-none}
 use Rattle.store_core.proofs.headed.files_of.Goals as goal
 
 pub loop-left-init : goal.loop-left-init
-loop-left-init c = (omega (arith, c.len-left.ensures.len), c.new-files.ensures ∙ files-none c.args.table.now c.len-left.result c.len-left.ensures.len)
+loop-left-init c =
+    (omega (arith, c.len-left.ensures.len), c.new-files.ensures ∙ files-none c.args.table.now c.len-left.result c.len-left.ensures.len)
 
 pub unreachable-requires : goal.unreachable-requires
 unreachable-requires c =

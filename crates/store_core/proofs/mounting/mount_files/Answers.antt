@@ -11,4 +11,5 @@ returns-clause-reads g c =
     files-then g.D.Disk c.args.journal.now c.begin.new.journal c.mount_others.new.journal c.begin.ensures.reads c.mount_others.ensures.reads
 
 pub returns-clause-storable : goal.returns-clause-storable
-returns-clause-storable g c = λ i file there. c.in_ok-mount_others.ensures.storable c.in_ok-opening.ensures.storable i file there
+returns-clause-storable g c =
+    λ i file there. c.in_ok-mount_others.ensures.storable c.in_ok-opening.ensures.storable i file there

@@ -35,4 +35,5 @@ returns-in_err-add_next-clause-reads g c =
     files-then g.D.Disk c.args.journal.now c.loop-added.journal c.add_next.new.journal c.loop-added.invariant.reads c.add_next.ensures.reads
 
 pub returns-in-Ok-clause-storable : goal.returns-in-Ok-clause-storable
-returns-in-Ok-clause-storable g c = λ can i file there. c.in-Ok.ensures.storable (c.loop-added.invariant.storable can) i file there
+returns-in-Ok-clause-storable g c =
+    λ can i file there. c.in-Ok.ensures.storable (c.loop-added.invariant.storable can) i file there

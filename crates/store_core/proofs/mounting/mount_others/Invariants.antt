@@ -12,6 +12,7 @@ invariant-loop-added g l = record {
   others : others l.opening ≡ others l.initial.opening;
   count : length l.opening.files ≡ l._added;
   storable : CanBeWrittenSoFar g.F.Formats.is_storable l.initial.opening → CanBeWrittenSoFar g.F.Formats.is_storable l.opening;
-  begins : g.D.Disk.tells l.initial.journal.disk ≡ true → Begins g.F.Formats.reads g.F.Formats.is_bad_at (g.D.Disk.seen l.initial.journal.disk) l.initial.opening
+  begins : g.D.Disk.tells l.initial.journal.disk ≡ true
+      → Begins g.F.Formats.reads g.F.Formats.is_bad_at (g.D.Disk.seen l.initial.journal.disk) l.initial.opening
       → Begins g.F.Formats.reads g.F.Formats.is_bad_at (g.D.Disk.seen l.initial.journal.disk) l.opening;
 }

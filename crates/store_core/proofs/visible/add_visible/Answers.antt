@@ -7,4 +7,5 @@ use Rattle.store_core.proofs.VisibleLemmas.{with_none}
 use Rattle.store_core.proofs.visible.add_visible.Goals as goal
 
 pub returns-in-Bad : goal.returns-in-Bad
-returns-in-Bad c = sym (ap (λ (state : FileState). with_all (visible_of state) c.args.keys.now) c.in-Bad.is ∙ with_none c.args.keys.now)
+returns-in-Bad c =
+    sym (ap (λ (state : FileState). with_all (visible_of state) c.args.keys.now) c.in-Bad.is ∙ with_none c.args.keys.now)

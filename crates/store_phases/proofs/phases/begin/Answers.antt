@@ -12,7 +12,8 @@ use Rattle.store_phases.proofs.Resting.{either_moment, moments_then, opened_rest
 use Rattle.store_phases.proofs.phases.begin.Goals as goal
 
 pub open_gate-requires-clause-fits : goal.open_gate-requires-clause-fits
-open_gate-requires-clause-fits g c = subst (λ (list : List (List FileText)). IsList (list ++ c.args.files ∷ [])) (sym c.put_body.ensures.same.0.list) c.requires.fits
+open_gate-requires-clause-fits g c =
+    subst (λ (list : List (List FileText)). IsList (list ++ c.args.files ∷ [])) (sym c.put_body.ensures.same.0.list) c.requires.fits
 
 pub open_gate-requires-clause-headed : goal.open_gate-requires-clause-headed
 open_gate-requires-clause-headed g c = c.put_body.ensures.same.0.headed ∙ c.requires.headed
@@ -65,7 +66,8 @@ returns-clause-passes g c names files doubt rests of_run =
     record {
       ok = opened_rests g.D.Disk new names files rests.before put.list entry tells with_list c.open_gate.ensures.head.0 begins c.open_gate.result c.open_gate.ensures.ok opened.ok;
       err = unopened_rests g.D.Disk new names files rests.before put.list entry tells with_list c.open_gate.ensures.head.0 begins c.open_gate.result c.open_gate.ensures.err opened.err;
-      any_moment = moments_then g.D.Disk old.disk put.disk new.disk (HasOnly (IsEither files (Some entry))) c.put_body.ensures.step.goes.moment
+      any_moment =
+          moments_then g.D.Disk old.disk put.disk new.disk (HasOnly (IsEither files (Some entry))) c.put_body.ensures.step.goes.moment
           (outcome_moment g.D.Disk old.disk put.disk files (with_entries rests.before old.list) (Some entry) rests.with_list passes.any_moment)
           (either_moment g.D.Disk put.disk new.disk files (with_entries rests.before put.list) (Some entry) with_list opened.any_moment);
     }

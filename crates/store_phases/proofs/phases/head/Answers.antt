@@ -18,4 +18,7 @@ pub returns-clause-rests : goal.returns-clause-rests
 returns-clause-rests g c names files doubt rests is header =
     let journal = c.args.journal.now in
     let alone = rests_sure g.D.Disk journal names files doubt None rests c.requires.sure in
-    record { rests = alone; any_moment = only_now g.D.Disk journal.disk (HasOnly (IsEither files None)) rests.tells (resting_only g.D.Disk journal names files None alone) }
+    record {
+      rests = alone;
+      any_moment = only_now g.D.Disk journal.disk (HasOnly (IsEither files None)) rests.tells (resting_only g.D.Disk journal names files None alone);
+    }

@@ -20,7 +20,9 @@ returns-then-fits-clause-rests g c names files doubt rests =
     settled_rest g.D.Disk c.args.journal.now c.settle.new.self c.settle.result names files doubt settle.same settle.step settle.ok settle.err rests settle.passes settle.bares
 
 pub returns-clause-ok : goal.returns-clause-ok
-returns-clause-ok g c = cleaned_room c.make_clean.new.journal c.args.body c.make_clean.result c.requires c.make_clean.ensures.ok
+returns-clause-ok g c =
+    cleaned_room c.make_clean.new.journal c.args.body c.make_clean.result c.requires c.make_clean.ensures.ok
 
 pub returns-clause-fits : goal.returns-clause-fits
-returns-clause-fits g c = cleaned_fits c.make_clean.new.journal c.args.body c.make_clean.result c.requires c.make_clean.ensures.ok
+returns-clause-fits g c =
+    cleaned_fits c.make_clean.new.journal c.args.body c.make_clean.result c.requires c.make_clean.ensures.ok

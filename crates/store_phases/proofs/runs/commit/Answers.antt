@@ -15,4 +15,5 @@ returns-clause-failed g c opened run store is of_run =
     (stored.failed run.names (files_of run) run.doubt store.rests is of_run) stored.phase.cause (stored.any_moment run.names (files_of run) run.doubt store.rests is of_run)
 
 pub returns-clause-any_moment : goal.returns-clause-any_moment
-returns-clause-any_moment g c opened run store is of_run = c.store.ensures.any_moment run.names (files_of run) run.doubt store.rests is of_run
+returns-clause-any_moment g c opened run store is of_run =
+    c.store.ensures.any_moment run.names (files_of run) run.doubt store.rests is of_run

@@ -26,7 +26,8 @@ commit-requires g c =
         made = w.known;
         world = w.world;
         number = c.args.number;
-        belongs = belongs_here (formats_of g.F.Formats) g.D.Disk c.args.plan.now.mounted w.procs w.opened c.args.core.now c.args.records.now c.args.places.now w.known w.world w.run w.holds c.args.handle c.args.number rec c.in-Ok.set
+        belongs =
+            belongs_here (formats_of g.F.Formats) g.D.Disk c.args.plan.now.mounted w.procs w.opened c.args.core.now c.args.records.now c.args.places.now w.known w.world w.run w.holds c.args.handle c.args.number rec c.in-Ok.set
             (slice_get-get_or c.args.records.now c.args.handle d c.if-handle-records.false)
             (held_by (formats_of g.F.Formats) g.D.Disk c.args.plan.now.mounted w.procs w.opened c.args.core.now c.args.records.now c.args.places.now w.known w.world w.run w.holds c.args.number
             c.index-places-number.result c.in-Ok.set c.if-number-places.false c.in-Ok.ensures.ok) accepted;

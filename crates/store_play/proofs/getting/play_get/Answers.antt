@@ -10,7 +10,9 @@ use Rattle.store_play.proofs.getting.play_get.Goals as goal
 pub get-got-requires : goal.get-got-requires
 get-got-requires g c =
     let rec : Record = get_or c.args.records.now c.args.handle c.index-records-handle.result in
-    record { places = (c.requires.handles.1 c.args.handle rec (slice_get-get_or c.args.records.now c.args.handle c.index-records-handle.result c.if-handle-records.false)).places }
+    record {
+      places = (c.requires.handles.1 c.args.handle rec (slice_get-get_or c.args.records.now c.args.handle c.index-records-handle.result c.if-handle-records.false)).places;
+    }
 
 pub returns-clause-stepped : goal.returns-clause-stepped
 returns-clause-stepped g c procs opened places known world run h =

@@ -35,7 +35,8 @@ pub returns-clause-made : goal.returns-clause-made
 returns-clause-made c = c.loop-handle.invariant.made
 
 pub returns-clause-count : goal.returns-clause-count
-returns-clause-count c = omega (arith, c.loop-handle.invariant.count, c.loop-handle-test.false, c.loop-handle.auto.handle-end)
+returns-clause-count c =
+    omega (arith, c.loop-handle.invariant.count, c.loop-handle-test.false, c.loop-handle.auto.handle-end)
 
 pub returns-clause-new : goal.returns-clause-new
 returns-clause-new c = c.loop-handle.invariant.new

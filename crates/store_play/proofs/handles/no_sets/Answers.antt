@@ -6,7 +6,11 @@ use Rattle.store_play.proofs.HandleLemmas.{holds_nothing-next}
 use Rattle.store_play.proofs.handles.no_sets.Goals as goal
 
 pub loop-init : goal.loop-init
-loop-init c = record { count = ap length c.in_ok-made.ensures.items; empty = subst HoldNothing (sym c.in_ok-made.ensures.items) (λ p. refl) }
+loop-init c =
+    record {
+      count = ap length c.in_ok-made.ensures.items;
+      empty = subst HoldNothing (sym c.in_ok-made.ensures.items) (λ p. refl);
+    }
 
 pub loop-preserved : goal.loop-preserved
 loop-preserved c = record {

@@ -18,7 +18,8 @@ loop-event-init g c = record {
   stood = λ procs opened known world run h.
       stood_first (formats_of g.F.Formats) g.D.Disk c.args.plan.now.mounted procs opened (stage_of c.args.core.now (records_in c.args.handles.now) (places_in c.args.handles.now) known run) c.args.events.now
       c.in_ok-answers.answers.items c.args.core.now (records_in c.args.handles.now) (places_in c.args.handles.now) known world run c.in_ok-answers.ensures.items refl h;
-  causes = All-same (IsCaused (g.D.Disk.faults c.args.core.now.journal.disk) (g.D.Disk.faults c.args.core.now.journal.disk) (g.P.Patterns.refusals c.args.core.now.patterns) (g.P.Patterns.refusals c.args.core.now.patterns))
+  causes =
+      All-same (IsCaused (g.D.Disk.faults c.args.core.now.journal.disk) (g.D.Disk.faults c.args.core.now.journal.disk) (g.P.Patterns.refusals c.args.core.now.patterns) (g.P.Patterns.refusals c.args.core.now.patterns))
       c.in_ok-answers.answers.items [] c.in_ok-answers.ensures.items (λ k d lt. absurd (omega arith));
   goes = OnlyReads-goes_on g.D.Disk c.args.core.now.journal.disk c.args.core.now.journal.disk (OnlyReads-none g.D.Disk c.args.core.now.journal.disk);
   later = omega arith;
@@ -28,10 +29,13 @@ pub turn-answer-requires : goal.turn-answer-requires
 turn-answer-requires g c =
     let w = c.requires.holding in
     let stood = c.loop-event.invariant.stood w.procs w.opened w.known w.world w.run w.holds in
-    record { holding = record { procs = w.procs; opened = w.opened; known = stood.known; world = stood.world; run = stood.run; holds = stood.holds } }
+    record {
+      holding = record { procs = w.procs; opened = w.opened; known = stood.known; world = stood.world; run = stood.run; holds = stood.holds };
+    }
 
 pub push_reserved-requires : goal.push_reserved-requires
-push_reserved-requires g c = omega (arith, c.loop-event.invariant.room, c.loop-event.invariant.count, c.loop-event-test.true)
+push_reserved-requires g c =
+    omega (arith, c.loop-event.invariant.room, c.loop-event.invariant.count, c.loop-event-test.true)
 
 pub loop-event-preserved : goal.loop-event-preserved
 loop-event-preserved g c = record {

@@ -14,10 +14,12 @@ returns-clause-stepped g c procs opened known world run h =
     c.step-answer.new.core c.flush_behind.new.core (records_in c.step-answer.new.handles) (places_in c.step-answer.new.handles) c.flush_behind.ensures (c.step-answer.ensures.stepped procs opened known world run h)
 
 pub returns-clause-goes : goal.returns-clause-goes
-returns-clause-goes g c = GoesOn-then g.D.Disk c.args.core.now.journal.disk c.step-answer.new.core.journal.disk c.flush_behind.new.core.journal.disk c.step-answer.ensures.goes c.flush_behind.ensures.goes
+returns-clause-goes g c =
+    GoesOn-then g.D.Disk c.args.core.now.journal.disk c.step-answer.new.core.journal.disk c.flush_behind.new.core.journal.disk c.step-answer.ensures.goes c.flush_behind.ensures.goes
 
 pub returns-clause-later : goal.returns-clause-later
-returns-clause-later g c = subst (λ p. g.P.Patterns.refusals c.args.core.now.patterns ≤ g.P.Patterns.refusals p) (sym c.flush_behind.ensures.patterns) c.step-answer.ensures.later
+returns-clause-later g c =
+    subst (λ p. g.P.Patterns.refusals c.args.core.now.patterns ≤ g.P.Patterns.refusals p) (sym c.flush_behind.ensures.patterns) c.step-answer.ensures.later
 
 pub returns-clause-cause : goal.returns-clause-cause
 returns-clause-cause g c =

@@ -14,10 +14,13 @@ and-false : (b : Bool) → (b && false) ≡ false
 and-false true = refl
 and-false false = refl
 
-all-fails : (p : ℕ → Bool) (seen : List Seen) (i : ℕ) (one : Seen) → Some one ≡ slice_get seen i → p one.mount ≡ false → list_all p (over (λ s. s.mount) seen) ≡ false
+all-fails : (p : ℕ → Bool) (seen : List Seen) (i : ℕ) (one : Seen) → Some one ≡ slice_get seen i → p one.mount ≡ false
+    → list_all p (over (λ s. s.mount) seen) ≡ false
 all-fails p [] i one there fails = absurd cc
-all-fails p (s ∷ seen) zero one there fails = let same : s ≡ one = cc in ap (λ b. b && list_all p (over (λ x. x.mount) seen)) (ap (λ (x : Seen). p x.mount) same ∙ fails)
-all-fails p (s ∷ seen) (suc i) one there fails = ap (λ b. p s.mount && b) (all-fails p seen i one there fails) ∙ and-false (p s.mount)
+all-fails p (s ∷ seen) zero one there fails =
+    let same : s ≡ one = cc in ap (λ b. b && list_all p (over (λ x. x.mount) seen)) (ap (λ (x : Seen). p x.mount) same ∙ fails)
+all-fails p (s ∷ seen) (suc i) one there fails =
+    ap (λ b. p s.mount && b) (all-fails p seen i one there fails) ∙ and-false (p s.mount)
 
 pub returns-then-ne : goal.returns-then-ne
 returns-then-ne c =

@@ -8,4 +8,5 @@ use Rattle.store_verdict.specs.RecordView.{record_of}
 use Rattle.store_verdict.proofs.accepting.has_fronts.Given as goal
 
 abbrev pub invariant-loop-one : goal.invariant-loop-one
-invariant-loop-one l = list_all (λ m. option_eq nat_eq (front_in (record_of l.rec) m) (front_of l.seen m)) (over (λ one. one.mount) (take l.one-index l.seen)) ≡ true
+invariant-loop-one l =
+    list_all (λ m. option_eq nat_eq (front_in (record_of l.rec) m) (front_of l.seen m)) (over (λ one. one.mount) (take l.one-index l.seen)) ≡ true

@@ -37,4 +37,5 @@ returns-clause-got c = λ procs proc.
     }
 
 pub returns-in-Some-clause-got : goal.returns-in-Some-clause-got
-returns-in-Some-clause-got c = λ procs proc. record { bad = sym (c.in_ok-mount.ensures procs) ∙ c.in-Some.is; same = refl }
+returns-in-Some-clause-got c =
+    λ procs proc. record { bad = sym (c.in_ok-mount.ensures procs) ∙ c.in-Some.is; same = refl }

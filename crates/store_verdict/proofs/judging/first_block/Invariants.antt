@@ -7,4 +7,5 @@ use Rattle.store_verdict.specs.PreparedView.{prepared_of}
 use Rattle.store_verdict.proofs.judging.first_block.Given as goal
 
 abbrev pub invariant-loop-mount : goal.invariant-loop-mount
-invariant-loop-mount l = (store : Store) → store.mounts ≡ l.table → first_some (conflict_at store l.history.commits (prepared_of l.set)) (take l.mount-index l.set.touched) ≡ None
+invariant-loop-mount l =
+    (store : Store) → store.mounts ≡ l.table → first_some (conflict_at store l.history.commits (prepared_of l.set)) (take l.mount-index l.set.touched) ≡ None

@@ -14,7 +14,8 @@ use Rattle.store_verdict.proofs.judging.first_same.Goals as goal
 use Rattle.store_verdict.proofs.judging.first_same.Goals.{then-eq, else-eq}
 
 pub loop-name-init : goal.loop-name-init
-loop-name-init c = sym (among-none c.args.points.now c.args.set.now.handle c.args.mount c.args.history.now.commits c.args.front)
+loop-name-init c =
+    sym (among-none c.args.points.now c.args.set.now.handle c.args.mount c.args.history.now.commits c.args.front)
 
 pub loop-name-preserved : goal.loop-name-preserved
 loop-name-preserved c =

@@ -28,30 +28,37 @@ use Rattle.store_verdict.proofs.LateLemmas.{late-blocked, late-heavy, late-inval
 use Rattle.store_verdict.proofs.judging.judge.Goals as goal
 
 -- what is told of a blocked mount, and that nothing is where none is blocked
-blocked : (found : Option Block) (told : Option model.Late) (block : Block) → conflict_of found ≡ told → found ≡ Some block → told ≡ Some (Conflict block.mount block.by)
+blocked : (found : Option Block) (told : Option model.Late) (block : Block) → conflict_of found ≡ told
+    → found ≡ Some block → told ≡ Some (Conflict block.mount block.by)
 blocked found told block of is = sym of ∙ ap conflict_of is
 
 unblocked : (found : Option Block) (told : Option model.Late) → conflict_of found ≡ told → found ≡ None → told ≡ None
 unblocked found told of is = sym of ∙ ap conflict_of is
 
 -- the violation that was found is the first one by the points and the touched mounts of a set
-first : (Risen : Type 0) (told points : List Name) (slice touched : List ℕ) (keys : KeyMap) (found violation : Option Violation)
-    → told ≡ points → slice ≡ touched → found ≡ violation → IsFirstViolation Risen (is_owned told slice) keys found → IsFirstViolation Risen (is_owned points touched) keys violation
+first : (Risen : Type 0) (told points : List Name) (slice touched : List ℕ) (keys : KeyMap)
+    (found violation : Option Violation)
+    → told ≡ points → slice ≡ touched → found ≡ violation → IsFirstViolation Risen (is_owned told slice) keys found
+    → IsFirstViolation Risen (is_owned points touched) keys violation
 first Risen told points slice touched keys found violation are same is of =
     subst (λ (o : Option Violation). IsFirstViolation Risen (is_owned points touched) keys o) is
     (subst (λ (owned : Name → Bool). IsFirstViolation Risen owned keys found) (ap₂ is_owned are same) of)
 
 -- what was made anew is that of the touched mounts of a set
-anew : (formats : Formats) (store : Store) (keys : KeyMap) (slice touched : List ℕ) (made renewal : Renewal) → slice ≡ touched → made ≡ renewal → IsRenewal formats store keys slice made → IsRenewal formats store keys touched renewal
+anew : (formats : Formats) (store : Store) (keys : KeyMap) (slice touched : List ℕ) (made renewal : Renewal)
+    → slice ≡ touched → made ≡ renewal → IsRenewal formats store keys slice made
+    → IsRenewal formats store keys touched renewal
 anew formats store keys slice touched made renewal same is of =
     subst (IsRenewal formats store keys touched) is (subst (λ (ms : List ℕ). IsRenewal formats store keys ms made) same of)
 
 -- a set that is a commit brings what was made
-brings : (formats : Formats) (store : Store) (keys : KeyMap) (touched : List ℕ) (h : ℕ) (commit : code.Commit) (aside : ℕ) (renewed : Option (List FileText)) → AreRenewed formats store keys touched renewed
+brings : (formats : Formats) (store : Store) (keys : KeyMap) (touched : List ℕ) (h : ℕ) (commit : code.Commit)
+    (aside : ℕ) (renewed : Option (List FileText)) → AreRenewed formats store keys touched renewed
     → BringsTexts formats store keys touched (unless_full h commit aside renewed)
 brings formats store keys touched h commit aside renewed are = by (nat_lt heaviest_history h)
   where
-    by : (b : Bool) → BringsTexts formats store keys touched (cond b (HistoryFull (saturated h)) (Commits commit aside renewed))
+    by : (b : Bool)
+        → BringsTexts formats store keys touched (cond b (HistoryFull (saturated h)) (Commits commit aside renewed))
     by true = tt
     by false = are
 

@@ -10,7 +10,8 @@ abbrev Item : Type 0
 Item = List ℕ × List ℕ
 
 pub loop-text-init : goal.loop-text-init
-loop-text-init c = ap (first_some (λ (x : Item). if_long x.1)) (c.into_iter-text-iterator.ensures.into_iter_gives ∙ c.iter-text-items.ensures.all)
+loop-text-init c =
+    ap (first_some (λ (x : Item). if_long x.1)) (c.into_iter-text-iterator.ensures.into_iter_gives ∙ c.iter-text-items.ensures.all)
 
 pub returns-in-Some-if_long : goal.returns-in-Some-if_long
 returns-in-Some-if_long c =

@@ -32,8 +32,10 @@ abbrev points_in : List MountedFile → List Name
 points_in files = points_at (over (λ (file : MountedFile). file.mount) files)
 
 -- the mounts that were asked are those that the parent involves
-asked : (points told : List Name) (parent : Name) (slice mounts : List ℕ) → slice ≡ mounts → mounts ≡ involved_in told parent → told ≡ points → slice ≡ involved_in points parent
-asked points told parent slice mounts is involved are = is ∙ involved ∙ ap (λ (ps : List Name). involved_in ps parent) are
+asked : (points told : List Name) (parent : Name) (slice mounts : List ℕ) → slice ≡ mounts
+    → mounts ≡ involved_in told parent → told ≡ points → slice ≡ involved_in points parent
+asked points told parent slice mounts is involved are =
+    is ∙ involved ∙ ap (λ (ps : List Name). involved_in ps parent) are
 
 pub not_fetched-requires : goal.not_fetched-requires
 not_fetched-requires g c =

@@ -5,4 +5,5 @@ use Rattle.store_verdict.specs.RecordView.{fetched_of}
 use Rattle.store_verdict.proofs.records.copy_all.Given as goal
 
 abbrev pub invariant-loop-place : goal.invariant-loop-place
-invariant-loop-place l = over (option_map fetched_of) l.copied.items ≡ over (option_map fetched_of) (take l.place-index l.places)
+invariant-loop-place l =
+    over (option_map fetched_of) l.copied.items ≡ over (option_map fetched_of) (take l.place-index l.places)

@@ -16,7 +16,9 @@ use Rattle.store_verdict.proofs.RenewLemmas.{can-renew, files-are, large-is, mou
 use Rattle.store_verdict.proofs.renewing.renew.Goals as goal
 
 -- what was written of some files, of others that are these
-of-files : (formats : Formats) (told mounts : List Mount) (made files : List FileToWrite) (all written : Written) → told ≡ mounts → made ≡ files → all ≡ written → AreAnew formats told made all → AreAnew formats mounts files written
+of-files : (formats : Formats) (told mounts : List Mount) (made files : List FileToWrite) (all written : Written)
+    → told ≡ mounts → made ≡ files → all ≡ written → AreAnew formats told made all
+    → AreAnew formats mounts files written
 of-files formats told mounts made files all written at are is anew =
     subst (AreAnew formats mounts files) is (subst (λ (fs : List FileToWrite). AreAnew formats mounts fs all) are (subst (λ (ms : List Mount). AreAnew formats ms made all) at anew))
 

@@ -26,12 +26,14 @@ abbrev table_in : List MountedFile → List Mount
 table_in files = over (λ (file : MountedFile). file.mount) files
 
 -- the files that were made are those of the mounts
-made : (files slice : List MountedFile) (parts : List (ℕ × KeyMap)) (all told : List FileToWrite) → told ≡ all → all ≡ over (file_of slice) parts → slice ≡ files → told ≡ over (file_of files) parts
+made : (files slice : List MountedFile) (parts : List (ℕ × KeyMap)) (all told : List FileToWrite) → told ≡ all
+    → all ≡ over (file_of slice) parts → slice ≡ files → told ≡ over (file_of files) parts
 made files slice parts all told is are same = is ∙ are ∙ ap (λ (fs : List MountedFile). over (file_of fs) parts) same
 
 -- a set that asks for this is refused for a fault
 abbrev Refuses : Formats → List MountedFile → List ℕ → KeyMap → List (ℕ × KeyMap) → PrepareFault → Type 0
-Refuses formats files mounts keys parts why = UnlessMemory fault.Memory ((procs : ℕ → KeyMap) (set : Set) → IsAsked (store_of files procs) mounts keys parts set → IsRefusedSet formats (store_of files procs) set why) why
+Refuses formats files mounts keys parts why =
+    UnlessMemory fault.Memory ((procs : ℕ → KeyMap) (set : Set) → IsAsked (store_of files procs) mounts keys parts set → IsRefusedSet formats (store_of files procs) set why) why
 
 pub returns-in_err-refuse_heavy-clause-refused : goal.returns-in_err-refuse_heavy-clause-refused
 returns-in_err-refuse_heavy-clause-refused g c =

@@ -9,4 +9,5 @@ use Rattle.store_verdict.proofs.DifferLemmas.{changed_in}
 use Rattle.store_verdict.proofs.touching.changes_of.Given as goal
 
 abbrev pub invariant-loop-part : goal.invariant-loop-part
-invariant-loop-part l = (q : Name) → map.get l.changes q ≡ changed_in (kept (record_of l.rec)) (numbered (take l.part-index l.touched)) q
+invariant-loop-part l =
+    (q : Name) → map.get l.changes q ≡ changed_in (kept (record_of l.rec)) (numbered (take l.part-index l.touched)) q

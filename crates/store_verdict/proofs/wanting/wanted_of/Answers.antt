@@ -17,9 +17,11 @@ use Rattle.store_verdict.proofs.DifferLemmas.{filter-parts}
 use Rattle.store_verdict.proofs.SetLemmas.{part-mounts, parts-within, touched-within}
 use Rattle.store_verdict.proofs.wanting.wanted_of.Goals as goal
 
-touched-parts : (points : List Name) (rec : Record) (parent : Name) (keys : KeyMap) (all parts : List Part) → numbered all ≡ parts_of points parent keys → numbered parts ≡ filter (differs_at rec) (numbered all)
+touched-parts : (points : List Name) (rec : Record) (parent : Name) (keys : KeyMap) (all parts : List Part)
+    → numbered all ≡ parts_of points parent keys → numbered parts ≡ filter (differs_at rec) (numbered all)
     → numbered parts ≡ over {B = ℕ × KeyMap} (λ m. (m, wants points keys m)) (touched_at points rec parent keys)
-touched-parts points rec parent keys all parts split is = is ∙ ap (filter (differs_at rec)) split ∙ filter-parts rec (wants points keys) (involved_in points parent)
+touched-parts points rec parent keys all parts split is =
+    is ∙ ap (filter (differs_at rec)) split ∙ filter-parts rec (wants points keys) (involved_in points parent)
 
 pub numbers_of-requires : goal.numbers_of-requires
 numbers_of-requires c =

@@ -15,7 +15,8 @@ use Rattle.store_verdict.proofs.FileLemmas.{handed-err}
 use Rattle.store_verdict.proofs.writing.write_all.Goals as goal
 
 pub write_file-requires : goal.write_file-requires
-write_file-requires g c = all_read (IsWritable c.args.table.now) c.args.files.now c.loop-file.file-index c.file-item.result c.requires c.loop-file-test.true c.file-item.is
+write_file-requires g c =
+    all_read (IsWritable c.args.table.now) c.args.files.now c.loop-file.file-index c.file-item.result c.requires c.loop-file-test.true c.file-item.is
 
 pub returns-in_err-written-clause-refused : goal.returns-in_err-written-clause-refused
 returns-in_err-written-clause-refused g c =

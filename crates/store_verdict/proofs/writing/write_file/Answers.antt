@@ -9,8 +9,10 @@ use Rattle.storage_api.specs.declared.refusals.WriteRefusal.TheVariants as write
 use Rattle.store_verdict.proofs.writing.write_file.Goals as goal
 
 -- a refusal that tells a key is no want of memory
-told : (Breaks : Name → Type 0) (key : Name) (refusal : WriteRefusal) → refusal ≡ write.NotStorable key → RefusesToWrite Breaks refusal → Breaks key
-told Breaks key refusal is refuses = subst (λ (w : WriteRefusal). RefusesToWrite Breaks w) is refuses (λ memory. absurd cc)
+told : (Breaks : Name → Type 0) (key : Name) (refusal : WriteRefusal) → refusal ≡ write.NotStorable key
+    → RefusesToWrite Breaks refusal → Breaks key
+told Breaks key refusal is refuses =
+    subst (λ (w : WriteRefusal). RefusesToWrite Breaks w) is refuses (λ memory. absurd cc)
 
 pub not_storable-requires-clause-cascading : goal.not_storable-requires-clause-cascading
 not_storable-requires-clause-cascading g c =

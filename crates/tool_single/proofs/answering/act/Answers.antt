@@ -31,7 +31,8 @@ returns-in_ok-step-in-Ok-clause-serving g c =
     subst (λ (r : Result KeyMap GetFault). Serving g.D.Disk files (AnswersGot Refusing files name action r) result core after) (sym found) by_parent
 
 pub returns-in_ok-step-in-Ok-clause-status : goal.returns-in_ok-step-in-Ok-clause-status
-returns-in_ok-step-in-Ok-clause-status g c = c.take_step.ensures.status (row_of c.args.name.now (action_of c.args.action)).statuses c.in_ok-step-in-Ok.ensures.status
+returns-in_ok-step-in-Ok-clause-status g c =
+    c.take_step.ensures.status (row_of c.args.name.now (action_of c.args.action)).statuses c.in_ok-step-in-Ok.ensures.status
 
 pub returns-in_ok-refuse_get-in-Err-clause-serving : goal.returns-in_ok-refuse_get-in-Err-clause-serving
 returns-in_ok-refuse_get-in-Err-clause-serving g c =

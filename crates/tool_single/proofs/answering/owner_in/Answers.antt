@@ -15,4 +15,5 @@ returns c =
     let name = c.args.name.now in
     let points = c.points.ensures.points ∙ ap (over (λ (mount : Mount). mount.at)) c.table-table.ensures.mounts in
     let found = sym c.in-Some.is ∙ (c.owner.ensures ∙ ap (λ ps. owner_of ps name) points) in
-    c.in-Some-mount.ensures ∙ (ap (λ table. slice_get table c.in-Some.i) c.table-table.ensures.mounts ∙ owner-found files name c.in-Some.i found)
+    c.in-Some-mount.ensures
+    ∙ (ap (λ table. slice_get table c.in-Some.i) c.table-table.ensures.mounts ∙ owner-found files name c.in-Some.i found)

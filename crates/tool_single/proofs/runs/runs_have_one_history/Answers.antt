@@ -6,4 +6,5 @@ returns-clause-one g c files runs last calm are decided =
     history_of g.D.Disk g.D.Disk.counts_now g.D.Disk.read_is_image c.args.disk.now files runs last calm are decided
 
 pub returns-clause-torn : goal.returns-clause-torn
-returns-clause-torn g c files doubt runs last calm are = found_by g.D.Disk g.D.Disk.counts_now g.D.Disk.read_is_image c.args.disk.now files doubt runs last calm are
+returns-clause-torn g c files doubt runs last calm are =
+    found_by g.D.Disk g.D.Disk.counts_now g.D.Disk.read_is_image c.args.disk.now files doubt runs last calm are

@@ -18,7 +18,8 @@ commit_set-requires-clause-alone g c = record {
   parent = c.args.parent.now;
   keys = c.args.keys.now;
   fetched = c.requires.fetched;
-  made = subst (λ (h : ℕ). IsMade formats (store_alone c.args.plan.now.mounted) h (record_of c.args.rec.now) c.args.parent.now c.args.keys.now c.in-Ok.prepared) c.requires.fetched.handle
+  made =
+      subst (λ (h : ℕ). IsMade formats (store_alone c.args.plan.now.mounted) h (record_of c.args.rec.now) c.args.parent.now c.args.keys.now c.in-Ok.prepared) c.requires.fetched.handle
       (c.in-Ok.ensures.made (λ h. no_keys));
 }
 

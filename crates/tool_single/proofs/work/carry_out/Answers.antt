@@ -16,8 +16,10 @@ use Rattle.tool_single.proofs.InputLemmas.{takes_none}
 use Rattle.tool_single.proofs.work.carry_out.Goals as goal
 
 -- the request that the words are, as they were lent and read
-asked_as : (lent words : List (List ℕ)) (read seen : code.Request) → lent ≡ words → read ≡ seen → IsSeenAs read (request lent) → IsSeenAs seen (request words)
-asked_as lent words read seen same is told = subst (λ ws. IsSeenAs seen (request ws)) same (subst (λ (r : code.Request). IsSeenAs r (request lent)) is told)
+asked_as : (lent words : List (List ℕ)) (read seen : code.Request) → lent ≡ words → read ≡ seen
+    → IsSeenAs read (request lent) → IsSeenAs seen (request words)
+asked_as lent words read seen same is told =
+    subst (λ ws. IsSeenAs seen (request ws)) same (subst (λ (r : code.Request). IsSeenAs r (request lent)) is told)
 
 pub answer_question-requires : goal.answer_question-requires
 answer_question-requires g c =

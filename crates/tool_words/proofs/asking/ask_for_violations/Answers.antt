@@ -4,7 +4,9 @@ use Rattle.tool_words.specs.RequestView.{IsRead}
 use Rattle.tool_words.proofs.asking.ask_for_violations.Goals as goal
 
 pub returns-in-Is : goal.returns-in-Is
-returns-in-Is c = subst (IsRead (on_name c.args.word.now)) c.in-Is.is c.in_ok-name.ensures (λ name. Asks (ViolationsOf name))
+returns-in-Is c =
+    subst (IsRead (on_name c.args.word.now)) c.in-Is.is c.in_ok-name.ensures (λ name. Asks (ViolationsOf name))
 
 pub returns-in-IsNone : goal.returns-in-IsNone
-returns-in-IsNone c = subst (IsRead (on_name c.args.word.now)) c.in-IsNone.is c.in_ok-name.ensures (λ name. Asks (ViolationsOf name))
+returns-in-IsNone c =
+    subst (IsRead (on_name c.args.word.now)) c.in-IsNone.is c.in_ok-name.ensures (λ name. Asks (ViolationsOf name))

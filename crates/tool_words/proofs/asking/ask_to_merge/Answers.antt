@@ -10,7 +10,8 @@ use Rattle.tool_words.proofs.asking.ask_to_merge.Goals as goal
 
 -- what is asked for by the first names
 abbrev by_base : List ℕ → List ℕ → Name → Name → Name → Request
-by_base into word our their base = on_name_for Writes into (λ name. on_strategy word (λ strategy. Asks (On name (Merge strategy our their base))))
+by_base into word our their base =
+    on_name_for Writes into (λ name. on_strategy word (λ strategy. Asks (On name (Merge strategy our their base))))
 
 abbrev by_their : List ℕ → List ℕ → List ℕ → Name → Name → Request
 by_their base into word our their = on_name_for Writes base (by_base into word our their)

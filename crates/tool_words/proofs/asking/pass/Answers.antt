@@ -11,4 +11,5 @@ returns-in-Is c =
     subst (IsSeenAs c.passed.result) (sym asked) c.passed.ensures
 
 pub returns-in-IsNone : goal.returns-in-IsNone
-returns-in-IsNone c = subst (IsRead (on_name_for Writes c.args.name.now)) c.in-IsNone.is c.in_ok-name.ensures (λ at. passing c.args.flow at c.args.kind)
+returns-in-IsNone c =
+    subst (IsRead (on_name_for Writes c.args.name.now)) c.in-IsNone.is c.in_ok-name.ensures (λ at. passing c.args.flow at c.args.kind)

@@ -5,4 +5,5 @@ pub returns-in-Ok : goal.returns-in-Ok
 returns-in-Ok c = λ asked. on_name-named c.args.word.now c.in-Ok.name asked c.in-Ok.ensures.spelled
 
 pub returns-in_default : goal.returns-in_default
-returns-in_default c = λ asked. on_name-refused c.args.word.now c.in-Err.fault asked c.in_default.not-Memory c.in-Err.ensures.refused
+returns-in_default c =
+    λ asked. on_name-refused c.args.word.now c.in-Err.fault asked c.in_default.not-Memory c.in-Err.ensures.refused

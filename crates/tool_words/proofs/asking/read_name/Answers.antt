@@ -11,7 +11,8 @@ returns-then-bars c = λ asked.
     let name = c.in-Is.name in
     let named = subst (IsRead (on_name c.args.word.now)) c.in-Is.is c.in_ok-name.ensures in
     let barred : bars by name.namespace ≡ true = ap (bars by) (sym c.namespace.ensures) ∙ (sym c.bars.ensures ∙ c.if-bars.true) in
-    named (λ (n : Name). cond (bars by n.namespace) (Bars n) (asked n)) ∙ ap (λ b. cond b (Bars name) (asked name)) barred
+    named (λ (n : Name). cond (bars by n.namespace) (Bars n) (asked n))
+    ∙ ap (λ b. cond b (Bars name) (asked name)) barred
 
 pub returns-else-bars : goal.returns-else-bars
 returns-else-bars c = λ asked.

@@ -8,4 +8,5 @@ pub returns-in_default : goal.returns-in_default
 returns-in_default c = (rw c.in_default.is at c.in_ok-extent.ensures) (asks_to_bring c.args.way)
 
 pub returns : goal.returns
-returns c = IfOk-weaker c.ask_to_bring.result _ _ (λ read seen. subst (IsSeenAs read) (sym ((rw c.in-Some.is at c.in_ok-extent.ensures) (asks_to_bring c.args.way))) seen) c.ask_to_bring.ensures
+returns c =
+    IfOk-weaker c.ask_to_bring.result _ _ (λ read seen. subst (IsSeenAs read) (sym ((rw c.in-Some.is at c.in_ok-extent.ensures) (asks_to_bring c.args.way))) seen) c.ask_to_bring.ensures

@@ -8,4 +8,5 @@ pub returns-in_default : goal.returns-in_default
 returns-in_default c = (rw c.in_default.is at c.in_ok-name.ensures) (asks c.args.by (action_of c.args.action))
 
 pub returns : goal.returns
-returns c = IfOk-weaker c.ask.result _ _ (λ read seen. subst (IsSeenAs read) (sym ((rw c.in-Some.is at c.in_ok-name.ensures) (asks c.args.by (action_of c.args.action)))) seen) c.ask.ensures
+returns c =
+    IfOk-weaker c.ask.result _ _ (λ read seen. subst (IsSeenAs read) (sym ((rw c.in-Some.is at c.in_ok-name.ensures) (asks c.args.by (action_of c.args.action)))) seen) c.ask.ensures

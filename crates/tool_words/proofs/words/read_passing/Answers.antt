@@ -8,4 +8,5 @@ pub returns-in_default : goal.returns-in_default
 returns-in_default c = (rw c.in_default.is at c.in_ok-name.ensures) (asks_to_pass c.args.flow)
 
 pub returns : goal.returns
-returns c = IfOk-weaker c.ask_to_pass.result _ _ (λ read seen. subst (IsSeenAs read) (sym ((rw c.in-Some.is at c.in_ok-name.ensures) (asks_to_pass c.args.flow))) seen) c.ask_to_pass.ensures
+returns c =
+    IfOk-weaker c.ask_to_pass.result _ _ (λ read seen. subst (IsSeenAs read) (sym ((rw c.in-Some.is at c.in_ok-name.ensures) (asks_to_pass c.args.flow))) seen) c.ask_to_pass.ensures

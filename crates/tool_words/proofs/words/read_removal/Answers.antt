@@ -9,4 +9,5 @@ pub returns-in_default : goal.returns-in_default
 returns-in_default c = (rw c.in_default.is at c.in_ok-extent.ensures) (λ extent. asks Writes (Remove extent))
 
 pub returns : goal.returns
-returns c = IfOk-weaker c.ask.result _ _ (λ read seen. subst (IsSeenAs read) (sym ((rw c.in-Some.is at c.in_ok-extent.ensures) (λ extent. asks Writes (Remove extent)))) seen) c.ask.ensures
+returns c =
+    IfOk-weaker c.ask.result _ _ (λ read seen. subst (IsSeenAs read) (sym ((rw c.in-Some.is at c.in_ok-extent.ensures) (λ extent. asks Writes (Remove extent)))) seen) c.ask.ensures

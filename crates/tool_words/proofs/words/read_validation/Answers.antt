@@ -5,7 +5,9 @@ use Rattle.tool_words.specs.RequestView.{IsSeenAs}
 use Rattle.tool_words.proofs.words.read_validation.Goals as goal
 
 pub returns-in_default : goal.returns-in_default
-returns-in_default c = (rw c.in_default.is at c.in_ok-name.ensures) (λ word. on_name word (λ name. Asks (ViolationsOf name)))
+returns-in_default c =
+    (rw c.in_default.is at c.in_ok-name.ensures) (λ word. on_name word (λ name. Asks (ViolationsOf name)))
 
 pub returns : goal.returns
-returns c = IfOk-weaker c.ask_for_violations.result _ _ (λ read seen. subst (IsSeenAs read) (sym ((rw c.in-Some.is at c.in_ok-name.ensures) (λ word. on_name word (λ name. Asks (ViolationsOf name))))) seen) c.ask_for_violations.ensures
+returns c =
+    IfOk-weaker c.ask_for_violations.result _ _ (λ read seen. subst (IsSeenAs read) (sym ((rw c.in-Some.is at c.in_ok-name.ensures) (λ word. on_name word (λ name. Asks (ViolationsOf name))))) seen) c.ask_for_violations.ensures

@@ -4,10 +4,12 @@ use Rattle.type_check.proofs.ListingLemmas.{breaks_listed, keeps_empty, keeps_li
 use Rattle.type_check.proofs.checks.check_listed.Goals as goal
 
 pub returns-then-is_empty : goal.returns-then-is_empty
-returns-then-is_empty c = λ meta are broken. keeps_empty c.args.value.now meta c.args.listing.now broken are (c.is_empty.ensures.yes c.if-is_empty.true)
+returns-then-is_empty c =
+    λ meta are broken. keeps_empty c.args.value.now meta c.args.listing.now broken are (c.is_empty.ensures.yes c.if-is_empty.true)
 
 pub returns-then-has : goal.returns-then-has
-returns-then-has c = λ meta are broken. keeps_listed c.args.value.now meta c.args.listing.now broken are (sym c.has.ensures ∙ c.if-has.true)
+returns-then-has c =
+    λ meta are broken. keeps_listed c.args.value.now meta c.args.listing.now broken are (sym c.has.ensures ∙ c.if-has.true)
 
 pub returns : goal.returns
 returns c = λ meta are.

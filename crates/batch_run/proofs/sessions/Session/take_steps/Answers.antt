@@ -20,7 +20,8 @@ loop-step-init g c =
       count = ap length c.requires.none;
       number = refl;
       passed = λ fits. omega arith;
-      goes = subst (λ (answers : List Reply). GoesOn formats store.lock store.plan [] answers handle workspace handle workspace) (sym c.requires.none)
+      goes =
+          subst (λ (answers : List Reply). GoesOn formats store.lock store.plan [] answers handle workspace handle workspace) (sym c.requires.none)
           (goes-nowhere formats store.lock store.plan handle workspace c.requires.ready);
     }
 
@@ -28,7 +29,8 @@ pub take_step-reply-requires : goal.take_step-reply-requires
 take_step-reply-requires g c = c.loop-step.invariant.goes.ready
 
 pub push_reserved-requires : goal.push_reserved-requires
-push_reserved-requires g c = omega (arith, c.loop-step.replies.ok.0, c.loop-step.invariant.room, c.loop-step.invariant.count, c.loop-step-test.true, c.requires.room)
+push_reserved-requires g c =
+    omega (arith, c.loop-step.replies.ok.0, c.loop-step.invariant.room, c.loop-step.invariant.count, c.loop-step-test.true, c.requires.room)
 
 pub loop-step-preserved : goal.loop-step-preserved
 loop-step-preserved g c =
@@ -45,7 +47,8 @@ loop-step-preserved g c =
       count = omega (arith, ap (λ (answers : List Reply). length answers) pushed.items, length-append so_far.replies.items (taken.result ∷ []), so_far.invariant.count);
       number = so_far.invariant.number;
       passed = λ fits. omega (arith, fits, c.saturating_add-self.ensures, so_far.invariant.passed fits, c.loop-step-test.true);
-      goes = subst (λ (answers : List Reply). GoesOn formats store.lock store.plan (take (so_far.step-index + 1) c.args.steps.now) answers first.handle first.workspace taken.new.handle taken.new.workspace) (sym pushed.items)
+      goes =
+          subst (λ (answers : List Reply). GoesOn formats store.lock store.plan (take (so_far.step-index + 1) c.args.steps.now) answers first.handle first.workspace taken.new.handle taken.new.workspace) (sym pushed.items)
           (goes-more formats store.lock store.plan c.args.steps.now so_far.step-index step so_far.replies.items taken.result first.handle so_far.self.handle taken.new.handle
           first.workspace so_far.self.workspace taken.new.workspace there so_far.invariant.goes taken.ensures);
     }

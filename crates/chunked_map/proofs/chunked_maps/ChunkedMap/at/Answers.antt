@@ -12,4 +12,5 @@ returns-then-chunk-len-clause-at g c =
     let lt : at < length cs = omega arith in
     let place = subst (λ cs. length (joined (take at cs)) + left ≡ c.args.i) c.deref.ensures.value c.place_in-chunk.ensures.place in
     let inside = subst (λ cs. at < length cs → left < length (get_or cs at [])) c.deref.ensures.value c.place_in-chunk.ensures.inside lt in
-    c.at.ensures.at ∙ get_in cs at left c.args.i c.index.result.now lt c.index.ensures place inside ∙ ap (λ es. slice_get es c.args.i) c.self.view_is
+    c.at.ensures.at ∙ get_in cs at left c.args.i c.index.result.now lt c.index.ensures place inside
+    ∙ ap (λ es. slice_get es c.args.i) c.self.view_is

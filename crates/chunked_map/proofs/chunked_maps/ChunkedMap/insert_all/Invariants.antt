@@ -6,4 +6,5 @@ use Rattle.chunked_map.specs.Chunks.{joined}
 use Rattle.chunked_map.proofs.chunked_maps.ChunkedMap.insert_all.Given as goal
 
 abbrev pub invariant-loop-chunk : goal.invariant-loop-chunk
-invariant-loop-chunk g l = put_all g.K.Ord.cmp (joined (into_iter_items l.chunk-iterator)) l.all ≡ put_all g.K.Ord.cmp (joined (into_iter_items l.initial.chunk-iterator)) l.self
+invariant-loop-chunk g l =
+    put_all g.K.Ord.cmp (joined (into_iter_items l.chunk-iterator)) l.all ≡ put_all g.K.Ord.cmp (joined (into_iter_items l.initial.chunk-iterator)) l.self

@@ -9,7 +9,8 @@ use Rattle.sorted_map.proofs.RisingLemmas.{is_sorted-remove, find-read, without-
 use Rattle.chunked_map.proofs.shared.Entries.remove_at.Goals as goal
 
 pub invariant_of-self : goal.invariant_of-self
-invariant_of-self g c = subst (λ es. T (is_sorted g.K.Ord.cmp es)) (sym c.remove-value.ensures.items) (is_sorted-remove g.K.Ord.cmp c.self.inside.sorted.items c.args.at c.self.invariant)
+invariant_of-self g c =
+    subst (λ es. T (is_sorted g.K.Ord.cmp es)) (sym c.remove-value.ensures.items) (is_sorted-remove g.K.Ord.cmp c.self.inside.sorted.items c.args.at c.self.invariant)
 
 pub returns-clause-former : goal.returns-clause-former
 returns-clause-former g c key place =

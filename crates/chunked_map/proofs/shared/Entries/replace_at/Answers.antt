@@ -7,7 +7,8 @@ use Rattle.sorted_map.proofs.RisingLemmas.{is_sorted-replaced, find-read, put-re
 use Rattle.chunked_map.proofs.shared.Entries.replace_at.Goals as goal
 
 pub invariant_of-self : goal.invariant_of-self
-invariant_of-self g c = is_sorted-replaced g.K.Ord.cmp c.self.inside.sorted.items c.args.at c.index_mut.result.now c.replace.new.dest (rw c.self.view_is c.requires) c.index_mut.ensures.value c.self.invariant
+invariant_of-self g c =
+    is_sorted-replaced g.K.Ord.cmp c.self.inside.sorted.items c.args.at c.index_mut.result.now c.replace.new.dest (rw c.self.view_is c.requires) c.index_mut.ensures.value c.self.invariant
 
 pub returns-clause-former : goal.returns-clause-former
 returns-clause-former g c key place =

@@ -5,7 +5,8 @@ use Rattle.commit_log.proofs.NamingLemmas.{rising-at, found-mark, no-mark}
 use Rattle.commit_log.proofs.histories.History.first_change_after.Goals as goal
 
 pub first_mark-requires : goal.first_mark-requires
-first_mark-requires c = rising-at (map commit_of c.self.inside.commits.items) c.self.inside.names c.self.inside.named c.self.invariant.3 c.args.name.now c.args.front c.args.not_by
+first_mark-requires c =
+    rising-at (map commit_of c.self.inside.commits.items) c.self.inside.names c.self.inside.named c.self.invariant.3 c.args.name.now c.args.front c.args.not_by
 
 pub returns-in-Some : goal.returns-in-Some
 returns-in-Some c =

@@ -8,7 +8,8 @@ use Rattle.dump_storage.proofs.StepLemmas.{key_heavy, key_step, key_sound, none-
 use Rattle.dump_storage.proofs.progress.Progress.add_key.Goals as goal
 
 pub returns-in_default-clause-step : goal.returns-in_default-clause-step
-returns-in_default-clause-step c = (refl, AddsNothing-no_name (progress_of c.args.self.now) c.args.text.now c.args.value.now (rw c.in_default.is at c.in_ok-name.ensures))
+returns-in_default-clause-step c =
+    (refl, AddsNothing-no_name (progress_of c.args.self.now) c.args.text.now c.args.value.now (rw c.in_default.is at c.in_ok-name.ensures))
 
 pub returns-in_default-heavier-clause-step : goal.returns-in_default-heavier-clause-step
 returns-in_default-heavier-clause-step c =

@@ -8,7 +8,8 @@ pub returns-in_default : goal.returns-in_default
 returns-in_default g c = record { found = Err Memory; answers = refl; opens = opens_memory g.D.Disk c.args.disk }
 
 pub returns-in_default-name_of_journal2 : goal.returns-in_default-name_of_journal2
-returns-in_default-name_of_journal2 g c = record { found = Err Memory; answers = refl; opens = opens_memory g.D.Disk c.args.disk }
+returns-in_default-name_of_journal2 g c =
+    record { found = Err Memory; answers = refl; opens = opens_memory g.D.Disk c.args.disk }
 
 pub returns-in-Ok-open : goal.returns-in-Ok-open
 returns-in-Ok-open g c =

@@ -7,7 +7,8 @@ use Rattle.intent_journal.proofs.Steps.{putting}
 use Rattle.intent_journal.proofs.journal.Journal.put_body.Goals as goal
 
 pub put_body-requires-clause-limit : goal.put_body-requires-clause-limit
-put_body-requires-clause-limit g c = omega (arith, c.self.invariant.placed, c.self.invariant.short, c.self.invariant.fits.within)
+put_body-requires-clause-limit g c =
+    omega (arith, c.self.invariant.placed, c.self.invariant.short, c.self.invariant.fits.within)
 
 pub put_body-requires-clause-there : goal.put_body-requires-clause-there
 put_body-requires-clause-there g c tells =

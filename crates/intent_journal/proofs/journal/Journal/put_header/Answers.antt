@@ -32,4 +32,5 @@ returns-in_err-put_header-clause-passes g c =
     failed_passes g.D.Disk _ _ _ c.from_residual.result _ _ _ c.from_residual.ensures.0 (c.in_err-put_header.ensures.passes tells names files is header state))
 
 pub returns-clause-passes : goal.returns-clause-passes
-returns-clause-passes g c = rw (← c.self.view_is) (λ tells names files is header state. c.in_ok-put_header.ensures.passes tells names files is header state)
+returns-clause-passes g c =
+    rw (← c.self.view_is) (λ tells names files is header state. c.in_ok-put_header.ensures.passes tells names files is header state)

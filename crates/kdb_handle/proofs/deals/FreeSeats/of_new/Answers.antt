@@ -9,4 +9,9 @@ returns-clause-free c lock new =
     dealt_free lock c.args.seats.items c.pop.new.self.items c.in-Some.last c.in-Some.ensures.items new (vec_capacity c.pop.new.self) (omega (arith, c.pop.ensures.capacity))
 
 pub returns-clause-flusher : goal.returns-clause-flusher
-returns-clause-flusher c lock new = record { flusher = c.in-Some.last; there = refl; is = dealt_flusher lock c.args.seats.items c.pop.new.self.items c.in-Some.last c.in-Some.ensures.items new }
+returns-clause-flusher c lock new =
+    record {
+      flusher = c.in-Some.last;
+      there = refl;
+      is = dealt_flusher lock c.args.seats.items c.pop.new.self.items c.in-Some.last c.in-Some.ensures.items new;
+    }

@@ -44,7 +44,8 @@ loop-try-preserved g c =
       number = c.attempt.ensures.number ∙ was.number;
       proc = c.attempt.ensures.proc ∙ was.proc;
       keys = was.keys;
-      retries = tried_again formats store.plan.mounted c.args.parent.now c.args.strategy c.args.tries c.args.self.now c.args.keys.now
+      retries =
+          tried_again formats store.plan.mounted c.args.parent.now c.args.strategy c.args.tries c.args.self.now c.args.keys.now
           c.loop-try.tried.items c.loop-try.self c.loop-try.ours was.retries c.attempt.new.self c.attempt.new.tried.items c.in-Again.next again;
       within = omega (arith, c.loop-try-test.true);
       count = omega (arith, count, was.count);

@@ -12,7 +12,9 @@ pub commit-answer-requires : goal.commit-answer-requires
 commit-answer-requires g c =
     let formats : Formats = formats_of g.F.Formats in
     let old = c.args.self.now in
-    record { ready = is_ready formats g.D.Disk g.row.D.coded g.P.Patterns.refusals c.args.plan.now.mounted old.core old.entries c.requires.may.0 c.args.rec.now c.args.prepared c.requires.may.1 }
+    record {
+      ready = is_ready formats g.D.Disk g.row.D.coded g.P.Patterns.refusals c.args.plan.now.mounted old.core old.entries c.requires.may.0 c.args.rec.now c.args.prepared c.requires.may.1;
+    }
 
 pub returns : goal.returns
 returns g c =

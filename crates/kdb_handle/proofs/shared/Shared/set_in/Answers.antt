@@ -13,7 +13,9 @@ commit-requires g c =
     record { may = (c.requires.may.0, given) }
 
 pub returns-in-Ok-commit : goal.returns-in-Ok-commit
-returns-in-Ok-commit g c = record { set = c.in-Ok.prepared; made = c.in-Ok.ensures.made (λ r. no_keys); commits = c.in-Ok-commit.ensures }
+returns-in-Ok-commit g c =
+    record { set = c.in-Ok.prepared; made = c.in-Ok.ensures.made (λ r. no_keys); commits = c.in-Ok-commit.ensures }
 
 pub returns-in-Err-commit : goal.returns-in-Err-commit
-returns-in-Err-commit g c = record { set = c.in-Ok.prepared; made = c.in-Ok.ensures.made (λ r. no_keys); commits = c.in-Err-commit.ensures }
+returns-in-Err-commit g c =
+    record { set = c.in-Ok.prepared; made = c.in-Ok.ensures.made (λ r. no_keys); commits = c.in-Err-commit.ensures }

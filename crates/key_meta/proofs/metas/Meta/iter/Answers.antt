@@ -6,7 +6,10 @@ use Rattle.key_meta.specs.MetaView.{AreItems}
 use Rattle.key_meta.proofs.metas.Meta.iter.Goals as goal
 
 pub returns-clause-all : goal.returns-clause-all
-returns-clause-all c = c.entries.ensures.all ∙ sym (map.entries-from_sorted text_cmp c.self.inside.items c.entries.ensures.sorted) ∙ ap map.entries c.self.view_is
+returns-clause-all c =
+    c.entries.ensures.all ∙ sym (map.entries-from_sorted text_cmp c.self.inside.items c.entries.ensures.sorted)
+    ∙ ap map.entries c.self.view_is
 
 pub returns-clause-items : goal.returns-clause-items
-returns-clause-items c = subst AreItems (sym (map.entries-from_sorted text_cmp c.self.inside.items c.entries.ensures.sorted) ∙ ap map.entries c.self.view_is) c.self.invariant
+returns-clause-items c =
+    subst AreItems (sym (map.entries-from_sorted text_cmp c.self.inside.items c.entries.ensures.sorted) ∙ ap map.entries c.self.view_is) c.self.invariant

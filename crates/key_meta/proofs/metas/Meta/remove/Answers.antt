@@ -38,4 +38,5 @@ returns-in-Err-clause-removed c =
     ∙ ap (λ m. map.remove m c.args.name.now) c.self.view_is
 
 pub invariant_of-self : goal.invariant_of-self
-invariant_of-self c = subst AreItems (sym c.remove_at.ensures.removed) (AreItems-remove c.in-Ok.at c.self.inside.items c.self.invariant)
+invariant_of-self c =
+    subst AreItems (sym c.remove_at.ensures.removed) (AreItems-remove c.in-Ok.at c.self.inside.items c.self.invariant)

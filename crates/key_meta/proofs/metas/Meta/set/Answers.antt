@@ -49,12 +49,17 @@ returns-in_ok-text-in-Err-clause-ok c = on_ok_weaker c.insert.result (λ done.
     ∙ ap (λ m. map.insert m c.args.name.now c.args.text.now) c.self.view_is) c.insert.ensures.ok
 
 -- a name and a text that are passed make an item
-made : (name text : List ℕ) → IsUtf8 name → 0 < length name → length name ≤ longest_meta_name → IsUtf8 text → IsItem (name, text)
-made name text utf8 some limit is_text = record { is_name = record { utf8 = utf8; some = some; limit = limit }; is_text = is_text }
+made : (name text : List ℕ) → IsUtf8 name → 0 < length name → length name ≤ longest_meta_name → IsUtf8 text
+    → IsItem (name, text)
+made name text utf8 some limit is_text =
+    record { is_name = record { utf8 = utf8; some = some; limit = limit }; is_text = is_text }
 
 -- whether or not the item was put in
-by_result : {A E : Type 0} (before after : List (List ℕ × List ℕ)) (name text : List ℕ) (done : Result A E) → AreItems before → IsItem (name, text) → OnOk done (after ≡ put text_cmp name text before) → OnErr done (after ≡ before) → AreItems after
-by_result before after name text (Ok a) all item ok err = subst AreItems (sym ok) (AreItems-put name text item before all)
+by_result : {A E : Type 0} (before after : List (List ℕ × List ℕ)) (name text : List ℕ) (done : Result A E)
+    → AreItems before → IsItem (name, text) → OnOk done (after ≡ put text_cmp name text before)
+    → OnErr done (after ≡ before) → AreItems after
+by_result before after name text (Ok a) all item ok err =
+    subst AreItems (sym ok) (AreItems-put name text item before all)
 by_result before after name text (Err e) all item ok err = subst AreItems (sym err) all
 
 pub invariant_of-self : goal.invariant_of-self

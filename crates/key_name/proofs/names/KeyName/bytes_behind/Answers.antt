@@ -13,7 +13,9 @@ returns-then-self-above c =
     let other = c.above.invariant.bytes ∙ ap (λ (name : Name). length (path name)) c.above.view_is in
     sym ((bytes_of_rest c.args.above.now c.args.self.now c.requires (omega (arith, filled, parts))).none (omega (arith, own, other, c.if-self-above.true)))
 
-whole : (c : goal.Else-self-above) → length (path c.args.self.now) ≡ length (path c.args.above.now) + length (path_of_parts (drop (length c.args.above.now.parts) c.args.self.now.parts))
+whole : (c : goal.Else-self-above)
+    → length (path c.args.self.now)
+    ≡ length (path c.args.above.now) + length (path_of_parts (drop (length c.args.above.now.parts) c.args.self.now.parts))
 whole c =
     let filled = eqb-false (length c.above.inside.parts) 0 (sym c.is_empty.ensures ∙ c.if-is_empty.false) in
     let parts = ap (λ (name : Name). length name.parts) c.above.view_is in

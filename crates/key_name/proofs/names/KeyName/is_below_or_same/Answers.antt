@@ -7,4 +7,5 @@ pub returns-then-same_namespace-clause-test : goal.returns-then-same_namespace-c
 returns-then-same_namespace-clause-test c = search rules
 
 pub returns-then-same_namespace-clause-relation : goal.returns-then-same_namespace-clause-relation
-returns-then-same_namespace-clause-relation c = Decides-at c.starts_with.result _ (returns-then-same_namespace-clause-test c) (is_at_or_below-Decides c.args.above.now c.args.self.now)
+returns-then-same_namespace-clause-relation c =
+    Decides-at c.starts_with.result _ (returns-then-same_namespace-clause-test c) (is_at_or_below-Decides c.args.above.now c.args.self.now)

@@ -35,7 +35,10 @@ invariant_of-result c = record {
 }
 
 pub returns-in-Some-clause-names : goal.returns-in-Some-clause-names
-returns-in-Some-clause-names c = (way_is_name c, subst (λ (name : Name). IsName name) c.self.view_is c.self.invariant.name)
+returns-in-Some-clause-names c =
+    (way_is_name c, subst (λ (name : Name). IsName name) c.self.view_is c.self.invariant.name)
 
 pub returns-in-Some-clause-back : goal.returns-in-Some-clause-back
-returns-in-Some-clause-back c = ap (λ (parts : List Part). joined c.args.above.now (record { namespace = Cascading; parts = parts })) (rest_is c) ∙ joined-way c.args.above.now c.args.self.now (test_is c)
+returns-in-Some-clause-back c =
+    ap (λ (parts : List Part). joined c.args.above.now (record { namespace = Cascading; parts = parts })) (rest_is c)
+    ∙ joined-way c.args.above.now c.args.self.now (test_is c)

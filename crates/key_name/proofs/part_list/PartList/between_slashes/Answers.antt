@@ -9,8 +9,11 @@ pub from_utf8_unchecked-requires : goal.from_utf8_unchecked-requires
 from_utf8_unchecked-requires c =
     subst IsUtf8 (sym (c.in_ok-bytes.ensures ∙ ap (λ path. 0 ∷ map nul_for_slash path) c.as_bytes.ensures.value)) (utf8-nuls c.args.path.now c.utf8.path)
 
-text : (c : goal.After-from_utf8_unchecked) → string_bytes c.from_utf8_unchecked.result ≡ 0 ∷ map nul_for_slash c.args.path.now
-text c = ap (λ bytes. bytes.items) c.from_utf8_unchecked.ensures.value ∙ c.in_ok-bytes.ensures ∙ ap (λ path. 0 ∷ map nul_for_slash path) c.as_bytes.ensures.value
+text : (c : goal.After-from_utf8_unchecked)
+    → string_bytes c.from_utf8_unchecked.result ≡ 0 ∷ map nul_for_slash c.args.path.now
+text c =
+    ap (λ bytes. bytes.items) c.from_utf8_unchecked.ensures.value ∙ c.in_ok-bytes.ensures
+    ∙ ap (λ path. 0 ∷ map nul_for_slash path) c.as_bytes.ensures.value
 
 pub invariant_of-result : goal.invariant_of-result
 invariant_of-result c = parts_alone _ _ (HasParts-slashes _ c.args.path.now c.requires (text c))

@@ -9,7 +9,9 @@ other : (c : goal.After-behind_front) → HasParts c.deref-2.result.now (parts_o
 other c = HasParts-at _ _ _ c.deref-2.ensures (HasParts-in _ c.front.invariant)
 
 pub returns-clause-some : goal.returns-clause-some
-returns-clause-some c = rw (← c.self.view_is, ← c.front.view_is) (found_some _ _ _ _ (own c) (other c) c.behind_front.result c.behind_front.ensures.some)
+returns-clause-some c =
+    rw (← c.self.view_is, ← c.front.view_is) (found_some _ _ _ _ (own c) (other c) c.behind_front.result c.behind_front.ensures.some)
 
 pub returns-clause-none : goal.returns-clause-none
-returns-clause-none c = rw (← c.self.view_is, ← c.front.view_is) (found_none _ _ _ _ (own c) (other c) c.behind_front.result c.behind_front.ensures.none)
+returns-clause-none c =
+    rw (← c.self.view_is, ← c.front.view_is) (found_none _ _ _ _ (own c) (other c) c.behind_front.result c.behind_front.ensures.none)

@@ -13,4 +13,5 @@ returns-clause-ok c = on_ok_weaker c.insert_all.result (λ done.
     ∙ (λ i. with_all (c.other.view_is i) (c.self.view_is i))) c.insert_all.ensures.ok
 
 pub returns-then-len-eq0-clause-ok : goal.returns-then-len-eq0-clause-ok
-returns-then-len-eq0-clause-ok c = c.other.view_is ∙ with_all-none c.args.other c.args.self.now (sym c.len.ensures ∙ c.if-len-eq0.true)
+returns-then-len-eq0-clause-ok c =
+    c.other.view_is ∙ with_all-none c.args.other c.args.self.now (sym c.len.ensures ∙ c.if-len-eq0.true)

@@ -11,7 +11,8 @@ use Rattle.key_set.proofs.WholeLemmas.{is_cascading, cascading-seen, fit-keys, n
 use Rattle.key_set.proofs.key_sets.KeySet.behind.Goals as goal
 
 pub renamed-requires : goal.renamed-requires
-renamed-requires c = cascading-seen c.self.inside.keys (subst (AllByRecursion is_cascading) (ap map.entries (sym c.self.view_is) ∙ entries-keys c.self.inside.keys c.allocator.ensures.sorted) c.requires.cascading)
+renamed-requires c =
+    cascading-seen c.self.inside.keys (subst (AllByRecursion is_cascading) (ap map.entries (sym c.self.view_is) ∙ entries-keys c.self.inside.keys c.allocator.ensures.sorted) c.requires.cascading)
 
 pub returns-in-Some : goal.returns-in-Some
 returns-in-Some c =

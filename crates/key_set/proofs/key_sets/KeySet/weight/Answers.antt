@@ -9,4 +9,5 @@ use Rattle.key_set.proofs.key_sets.KeySet.weight.Goals as goal
 pub returns : goal.returns
 returns c =
     let entries = sym (entries-keys c.self.inside.keys c.weight_of_all.ensures.sorted) ∙ ap map.entries c.self.view_is in
-    c.weight_of_all.ensures.weight ∙ ap saturated (weight-seen c.self.inside.keys ∙ ap (sum_by (λ key. weight_of_key key.0 key.1)) entries)
+    c.weight_of_all.ensures.weight
+    ∙ ap saturated (weight-seen c.self.inside.keys ∙ ap (sum_by (λ key. weight_of_key key.0 key.1)) entries)

@@ -20,22 +20,30 @@ use Rattle.mounted_files.proofs.WritableLemmas.{all-writable}
 use Rattle.mounted_files.proofs.opening.Opening.mounted.Goals as goal
 
 -- the own file, put in, under a mount that was found there
-put_in : (files new : List MountedFile) (place : ℕ) (own : FileState) (mount found : Mount) → mount ≡ found → found ≡ own_mount → new ≡ insert files place (record { mount = mount; state = own }) → new ≡ insert files place (record { mount = own_mount; state = own })
-put_in files new place own mount found copied is made = made ∙ ap (λ m. insert files place (record { mount = m; state = own })) (copied ∙ is)
+put_in : (files new : List MountedFile) (place : ℕ) (own : FileState) (mount found : Mount) → mount ≡ found
+    → found ≡ own_mount → new ≡ insert files place (record { mount = mount; state = own })
+    → new ≡ insert files place (record { mount = own_mount; state = own })
+put_in files new place own mount found copied is made =
+    made ∙ ap (λ m. insert files place (record { mount = m; state = own })) (copied ∙ is)
 
 -- the files are those of all others
-all_others : (table : List Mount) (place : ℕ) (files : List MountedFile) → over (λ (file : MountedFile). file.mount) files ≡ take (length files) (remove table place) → length files ≡ length (remove table place) → over (λ (file : MountedFile). file.mount) files ≡ remove table place
-all_others table place files first counted = first ∙ take_all (length files) (remove table place) (omega (arith, counted))
+all_others : (table : List Mount) (place : ℕ) (files : List MountedFile)
+    → over (λ (file : MountedFile). file.mount) files ≡ take (length files) (remove table place)
+    → length files ≡ length (remove table place) → over (λ (file : MountedFile). file.mount) files ≡ remove table place
+all_others table place files first counted =
+    first ∙ take_all (length files) (remove table place) (omega (arith, counted))
 
 -- with the own file put in, the mounts are those of the table
-mounts_put : (table : List Mount) (place : ℕ) (own : FileState) (files : List MountedFile) → slice_get table place ≡ Some own_mount → over (λ (file : MountedFile). file.mount) files ≡ remove table place
+mounts_put : (table : List Mount) (place : ℕ) (own : FileState) (files : List MountedFile)
+    → slice_get table place ≡ Some own_mount → over (λ (file : MountedFile). file.mount) files ≡ remove table place
     → over (λ (file : MountedFile). file.mount) (insert files place (record { mount = own_mount; state = own })) ≡ table
 mounts_put table place own files own_there others =
     over-insert (λ (file : MountedFile). file.mount) files place (record { mount = own_mount; state = own })
     ∙ (ap (λ ms. insert ms place own_mount) others ∙ insert-remove table place own_mount own_there)
 
 -- and their place is one among them
-place_within : (table : List Mount) (place : ℕ) (files : List MountedFile) → slice_get table place ≡ Some own_mount → over (λ (file : MountedFile). file.mount) files ≡ remove table place → place ≤ length files
+place_within : (table : List Mount) (place : ℕ) (files : List MountedFile) → slice_get table place ≡ Some own_mount
+    → over (λ (file : MountedFile). file.mount) files ≡ remove table place → place ≤ length files
 place_within table place files own_there others =
     let counted : length (over (λ (file : MountedFile). file.mount) files) ≡ length files = length-map files (λ (file : MountedFile). file.mount) in
     let same = ap length others in

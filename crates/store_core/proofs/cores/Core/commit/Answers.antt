@@ -27,7 +27,8 @@ use Rattle.store_core.proofs.cores.Core.commit.Goals as goal
 
 -- what the history decides of a set, by the store of some files
 abbrev Decided : {D P : Type 0} → Formats → List MountedFile → Core D P → Prepared → Bool → Late → Type 0
-Decided formats files core set risen late = (procs : ℕ → KeyMap) → IsLate formats (store_of files procs) core.history.commits core.keys (prepared_of set) (late_of risen late)
+Decided formats files core set risen late =
+    (procs : ℕ → KeyMap) → IsLate formats (store_of files procs) core.history.commits core.keys (prepared_of set) (late_of risen late)
 
 pub returns-in-Err : goal.returns-in-Err
 returns-in-Err g c =
@@ -108,7 +109,8 @@ returns-in-HistoryFull g c =
 
 -- the texts that the judging made anew
 abbrev Brings : Formats → List MountedFile → KeyMap → Prepared → Late → Type 0
-Brings formats files keys set late = (procs : ℕ → KeyMap) → BringsTexts formats (store_of files procs) keys set.touched late
+Brings formats files keys set late =
+    (procs : ℕ → KeyMap) → BringsTexts formats (store_of files procs) keys set.touched late
 
 pub enter-requires : goal.enter-requires
 enter-requires g c =
@@ -119,14 +121,18 @@ enter-requires g c =
     let late = subst (Decided (formats_of g.F.Formats) files core c.args.prepared (has_risen (g.P.Patterns.refusals core.patterns) (g.P.Patterns.refusals c.judge_set.new.patterns))) c.in-Commits.is c.in-Ok.ensures.late in
     let brings = subst (Brings (formats_of g.F.Formats) files c.in-Ok.judged.keys c.args.prepared) c.in-Commits.is c.in-Ok.ensures.renewed in
     record {
-      entry = subst (λ (set : Prepared). IsOfRun (names_at (over (λ (file : MountedFile). file.mount) files)) set.texts) (sym c.with_texts-prepared.ensures)
+      entry =
+          subst (λ (set : Prepared). IsOfRun (names_at (over (λ (file : MountedFile). file.mount) files)) set.texts) (sym c.with_texts-prepared.ensures)
           (is_entry (formats_of g.F.Formats) (store_of files ready.procs) core ready.records ready.made ready.world ready.number c.args.rec.now c.args.prepared ready.belongs commit c.in-Commits.left_aside (late ready.procs)
           c.in-Ok.judged.keys c.in-Ok.ensures.keys c.in-Commits.renewed (brings ready.procs));
-      light = subst (λ (log : Log). history_weight (log.commits ++ commit ∷ []) ≤ heaviest_history) (sym c.in-Ok.ensures.same)
+      light =
+          subst (λ (log : Log). history_weight (log.commits ++ commit ∷ []) ≤ heaviest_history) (sym c.in-Ok.ensures.same)
           (not_full (formats_of g.F.Formats) (store_of files ready.procs) core ready.records ready.made ready.world ready.number c.args.rec.now c.args.prepared ready.belongs commit c.in-Commits.left_aside (late ready.procs));
-      count = subst (λ (log : Log). (record_of c.args.rec.now).committed ≤ length log.commits) (sym c.in-Ok.ensures.same)
+      count =
+          subst (λ (log : Log). (record_of c.args.rec.now).committed ≤ length log.commits) (sym c.in-Ok.ensures.same)
           (own_count (formats_of g.F.Formats) (store_of files ready.procs) core ready.records ready.made ready.world ready.number c.args.rec.now c.args.prepared ready.belongs);
-      places = subst (λ (set : Prepared). All (λ (part : Part). part.mount < places_of c.args.rec.now) set.wanted) (sym c.with_texts-prepared.ensures)
+      places =
+          subst (λ (set : Prepared). All (λ (part : Part). part.mount < places_of c.args.rec.now) set.wanted) (sym c.with_texts-prepared.ensures)
           (places_within (formats_of g.F.Formats) (store_of files ready.procs) core ready.records ready.made ready.world ready.number c.args.rec.now c.args.prepared ready.belongs commit c.in-Commits.left_aside (late ready.procs)
           c.in-Ok.judged.keys c.in-Ok.ensures.keys c.in-Commits.renewed (brings ready.procs));
     }

@@ -5,4 +5,5 @@ use Rattle.store_core.proofs.HeadLemmas.{is_header}
 use Rattle.store_core.proofs.headed.Headed.new.Goals as goal
 
 pub encode_header-requires : goal.encode_header-requires
-encode_header-requires c = subst IsHeader (sym (c.deref.ensures.value ∙ c.in_ok-names.ensures)) (is_header c.table.result.now c.table.ensures.made)
+encode_header-requires c =
+    subst IsHeader (sym (c.deref.ensures.value ∙ c.in_ok-names.ensures)) (is_header c.table.result.now c.table.ensures.made)

@@ -5,4 +5,6 @@ use Rattle.store_verdict.proofs.ChangeSetLemmas.{entries-changes, seen_change}
 use Rattle.store_verdict.proofs.change_sets.ChangeSet.entries.Goals as goal
 
 pub returns : goal.returns
-returns c = ap (over seen_change) c.entries.ensures.all ∙ sym (entries-changes c.self.inside.changes c.entries.ensures.sorted) ∙ ap map.entries c.self.view_is
+returns c =
+    ap (over seen_change) c.entries.ensures.all ∙ sym (entries-changes c.self.inside.changes c.entries.ensures.sorted)
+    ∙ ap map.entries c.self.view_is
