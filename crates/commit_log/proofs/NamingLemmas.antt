@@ -1,8 +1,7 @@
 -- The index by names: what becomes of it with one more mark, and what its marks tell of the history.
 use Rattle.std.proofs.Common.{◌≡◌, ℕ, zero, suc, ◌+◌, ◌-◌, ◌<◌, ◌≤◌, nat_eq, nat_lt, Bool, true, false, not, ◌&&◌, ◌||◌, cond, List, [], ◌∷◌, ◌++◌, length, drop, take, get_or, map, slice_get, Option, Some, None, refl, sym, ap, subst, ◌∙◌, arith}
-use Rattle.std.specs.BTreeMap.{get, is_at}
+use Rattle.std.specs.BTreeMap.{get}
 use Rattle.std.specs.List.{AllByRecursion, list_any, position_from}
-use Rattle.std.specs.Map.{lookup}
 use Rattle.std.specs.Option.{option_map_or, option_or}
 use Rattle.std.specs.Ordering.{eq_by_cmp}
 use Rattle.std.specs.declared.alloc.Global.{Global}
@@ -298,13 +297,6 @@ pub naming-pushed : (history : List Commit) (commit : Commit) (names : Names) (n
 naming-pushed history commit names named naming = record {
   within = let more = length-append history (commit ∷ []) in omega (arith, naming.within);
   each = λ name. naming.each name ∙ ap (marks_in name 1) (sym (take-append-le named history (commit ∷ []) naming.within));
-}
-
--- an index without marks
-pub no_names : (history : List Commit) (names : Names) → names.entries ≡ [] → IsNaming history 0 names
-no_names history names none = record {
-  within = omega arith;
-  each = λ name. ap (λ entries. option_map_or (λ marks. marks.items) (lookup (is_at (name_cmp name)) entries) []) none;
 }
 
 -- an index with the marks of the other commits too

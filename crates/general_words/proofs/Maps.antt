@@ -11,7 +11,7 @@ use Rattle.std.specs.declared.cmp.Ordering.TheVariants.{Less, Equal, Greater}
 use Rattle.std.proofs.lemmas.Bool.{cond-true}
 use Rattle.std.proofs.lemmas.List.{nil_from_length}
 use Rattle.std.proofs.lemmas.List.Sums.{sum_by-cons}
-use Rattle.general_words.proofs.Tests.{shadowed, cond_nothing}
+use Rattle.general_words.proofs.Tests.{shadowed}
 use Rattle.general_words.proofs.Orders.{tied, itself}
 use Rattle.general_words.proofs.Entries.{find-front, find-next}
 
@@ -113,11 +113,6 @@ module _ {K X : Type 0} {R : K → K → Ordering} (total : IsTotalOrder R) wher
     pub get-retain : (m : FinMap R X) (p : K → Bool) (q : K)
         → map.get (map.retain_keys m p) q ≡ cond (p q) (map.get m q) None
     get-retain m p q = map.get-retain_keys m p q (λ x t. ap p (sym (same q x t)))
-
-    -- no key passes where there is none
-    pub retain-empty : (p : K → Bool) → map.retain_keys (map.empty {X = X} {R = R}) p ≡ map.empty
-    retain-empty p =
-        map.same_map total same _ _ (λ q. get-retain map.empty p q ∙ cond_nothing (p q) (map.get map.empty q) (map.get-empty R q) ∙ sym (map.get-empty R q))
 
     pub entries-retain : (m : FinMap R X) (p : K → Bool) → map.entries (map.retain_keys m p) ≡ where_key R p (map.entries m)
     entries-retain m p =

@@ -198,20 +198,6 @@ pub bare_only : (leaves : List ℕ → List ℕ → Type 0) (files : Image) → 
 bare_only leaves files state image is =
     only_none files image (head_only leaves files None (bare_doubt leaves files None state) image is)
 
--- no doubt is any doubt
-pub head_any : (leaves : List ℕ → List ℕ → Type 0) (files : Image) (doubt : Option (List FileText))
-    → IsHeadInDoubt leaves files None → IsHeadInDoubt leaves files doubt
-head_any leaves files doubt state = record {
-  same = state.same;
-  former = state.former;
-  journal = λ c is.
-      let gives = state.journal c is in
-      record {
-        not_broken = gives.not_broken;
-        outcomes = λ more reads. inl (either_none files (with_entries files more) (gives.outcomes more reads));
-      };
-}
-
 -- ---- where nothing can come in
 
 pub bare_settled : (leaves : List ℕ → List ℕ → Type 0) (files : Image) → IsBare leaves files → IsSettled leaves files

@@ -27,30 +27,6 @@ use Rattle.intent_journal.proofs.Retired.{retired_kept}
 
 -- ---- what is read
 
--- a fault is told where the reading stops, and none where it doesn't
-bad_read : (r : Result (List (List FileText)) JournalFault) (at : ℕ) → told_by place_of r ≡ Some at
-    → r ≡ Err (BadJournal at)
-bad_read (Ok entries) at is = absurd (none-some at is)
-bad_read (Err DiskFault) at is = absurd (none-some at is)
-bad_read (Err Memory) at is = absurd (none-some at is)
-bad_read (Err (UnknownVersion version)) at is = absurd (none-some at is)
-bad_read (Err (BadJournal place)) at is = cc
-
-unknown_read : (r : Result (List (List FileText)) JournalFault) (version : ℕ) → told_by version_in r ≡ Some version
-    → r ≡ Err (UnknownVersion version)
-unknown_read (Ok entries) version is = absurd (none-some version is)
-unknown_read (Err DiskFault) version is = absurd (none-some version is)
-unknown_read (Err Memory) version is = absurd (none-some version is)
-unknown_read (Err (BadJournal at)) version is = absurd (none-some version is)
-unknown_read (Err (UnknownVersion other)) version is = cc
-
-pub list_of_bad : (seen : Image) (at : ℕ) → bad_place seen ≡ Some at → found_in seen ≡ Err (BadJournal at)
-list_of_bad seen at bad = bad_read (found_in seen) at bad
-
-pub list_of_unknown : (seen : Image) (version : ℕ) → unknown_version seen ≡ Some version
-    → found_in seen ≡ Err (UnknownVersion version)
-list_of_unknown seen version unknown = unknown_read (found_in seen) version unknown
-
 pub open_list_is : (seen : Image) (list : List (List FileText)) → found_in seen ≡ Ok list → open_list seen ≡ list
 open_list_is seen list is = ap entries_found is
 

@@ -271,14 +271,6 @@ written_closed bytes [] closed = absurd (omega (arith, closed.there))
 written_closed bytes (x ∷ rest) closed =
     let more = drop (1 + length bytes) (x ∷ rest) in (more, ap (λ (y : ℕ). y ∷ (bytes ++ more)) closed.gate_is)
 
--- a body, with a closed gate behind it
-body_written : (entry : List FileText) (bytes : List ℕ) → bytes ≡ behind_gate entry ++ 0 ∷ [] → (rest : List ℕ)
-    → IsClosed rest
-    → (more : List ℕ) × (written rest 1 bytes ≡ 0 ∷ (behind_gate entry ++ 0 ∷ more))
-body_written entry bytes is rest closed =
-    let there = written_closed bytes rest closed in
-    (there.0, there.1 ∙ ap (λ (l : List ℕ). 0 ∷ (l ++ there.0)) is ∙ ap (λ (l : List ℕ). 0 ∷ l) (append_assoc (behind_gate entry) (0 ∷ []) there.0))
-
 -- a journal in which a body stands behind the list
 abbrev pub IsBodyOf : List FileText → List ℕ → Type 0
 IsBodyOf entry rest = (more : List ℕ) × (rest ≡ 0 ∷ (behind_gate entry ++ 0 ∷ more))

@@ -1,5 +1,5 @@
 -- Whole bodies: spelling and reading undo each other.
-use Rattle.std.proofs.Common.{◌≡◌, ℕ, ◌<◌, ◌≤◌, Bool, true, false, cond, eqb, leb, List, [], ◌∷◌, ◌++◌, length, All, Result, Ok, Err, refl, sym, ap, ap₂, subst, ◌∙◌, arith}
+use Rattle.std.proofs.Common.{◌≡◌, ℕ, ◌≤◌, Bool, true, false, cond, eqb, leb, List, [], ◌∷◌, ◌++◌, length, Result, Ok, Err, refl, sym, ap, ap₂, subst, ◌∙◌, arith}
 use Rattle.std.specs.List.{flat_map, AllByRecursion}
 use Rattle.std.proofs.lemmas.Bool.{eqb-true, leb-true, le-leb, and_parts, and_from}
 use Rattle.std.proofs.lemmas.List.{append-nil, nil_from_length}
@@ -7,7 +7,7 @@ use Rattle.std.proofs.lemmas.List.Elements.{All-from_recursion, recursion_from_A
 use Rattle.journal_codec.specs.declared.files.FileText.{FileText}
 use Rattle.journal_codec.specs.Entry.{most_files, spelled_file, spelled, IsEntryFile, names_of, IsEntry}
 use Rattle.journal_codec.specs.Reading.{Reads, Field, ◌>>=◌, checked, byte_at, is_count, count_at, counted, is_next_name, files_at, all_of, reading_of, read_body}
-use Rattle.journal_codec.proofs.FieldLemmas.{IsBytes, IsBytes-from_All, IsBytes-behind, bind_ok, bind_is, checked_ok, byte_takes}
+use Rattle.journal_codec.proofs.FieldLemmas.{IsBytes, IsBytes-behind, bind_ok, bind_is, checked_ok, byte_takes}
 use Rattle.journal_codec.proofs.NameLemmas.{sorted_from_rises, rises_from_nothing}
 use Rattle.journal_codec.proofs.ItemLemmas.{ItemsReader}
 use Rattle.journal_codec.proofs.FileLemmas.{files_takes, files_again}
@@ -143,7 +143,3 @@ pub spelled_apart : (files others : List FileText) → IsEntry files → IsEntry
     → files ≡ others
 spelled_apart files others one other e =
     same_files files others (sym (is_read_again files one) ∙ ap read_body e ∙ is_read_again others other)
-
-pub spelling_of_read : (body : List ℕ) (files : List FileText) → All (λ b. b < 256) body → read_body body ≡ Reads files
-    → spelled files ≡ body
-spelling_of_read body files all e = (is_read body files e).spelling (IsBytes-from_All body all)

@@ -226,16 +226,3 @@ value-number before n =
     HasAdded-along (NumberAdds before n) (ValueAdds before (number n))
     (λ added is. let u = number-under before (integer_text n) added is in record { here = u.0; named = tt; are = u.1; all = u.2 })
     (λ added adds. number-over before (integer_text n) adds.here adds.are ∙ ap Some (sym adds.all))
-
-pub number-none : (before : List Part) (n : Num) → integer_text n ≡ None → (found after : Found)
-    → HasAdded (NumberAdds before n) found after false
-number-none before n none found after =
-    λ added more keys adds fill. none_is_no_some added (sym (ap (option_map (λ text. (before, text) ∷ [])) none) ∙ adds)
-
-pub number-text : (before : List Part) (n : Num) (text : List ℕ) → integer_text n ≡ Some text
-    → (found after : Found) (b : Bool) → HasAdded (λ added. added ≡ (before, text) ∷ []) found after b
-    → HasAdded (NumberAdds before n) found after b
-number-text before n text is =
-    HasAdded-along (λ added. added ≡ (before, text) ∷ []) (NumberAdds before n)
-    (λ added e. ap (option_map (λ t. (before, t) ∷ [])) is ∙ ap Some (sym e))
-    (λ added adds. sym (some_is ((before, text) ∷ []) added (sym (ap (option_map (λ t. (before, t) ∷ [])) is) ∙ adds)))

@@ -40,7 +40,3 @@ pub some-there : (es : List (Name × Entry)) (i : ℕ) → i < length es → Non
 some-there [] i less none = absurd (omega (arith, less))
 some-there (key ∷ es) zero less none = absurd cc
 some-there (key ∷ es) (suc i) less none = some-there es i (omega (arith, less)) none
-
-pub nothing-before : (es : List (Name × Entry)) (name : Name) → length es ≡ 0 → AllBefore name es
-nothing-before [] name none = tt
-nothing-before (key ∷ es) name none = absurd (omega (arith, none))

@@ -1,6 +1,6 @@
 -- What an element or a member adds, by what its value adds.
-use Rattle.std.specs.Prelude.{◌≡◌, ◌≢◌, ℕ, ◌+◌, Bool, true, false, List, [], ◌∷◌, ◌++◌, length}
-use Rattle.std.proofs.Common.{refl, sym, ap, subst, ◌∙◌, arith, length-append}
+use Rattle.std.specs.Prelude.{◌≡◌, ℕ, ◌+◌, Bool, true, false, List, [], ◌∷◌, ◌++◌, length}
+use Rattle.std.proofs.Common.{sym, ap, subst, arith, length-append}
 use Rattle.std.specs.FinMap as finite
 use Rattle.std.proofs.lemmas.List.{length-map}
 use Rattle.model_names.specs.ArrayPart.{is_array_like, array_part}
@@ -11,10 +11,9 @@ use Rattle.serde_json.specs.Data.{Data}
 use Rattle.model_json.specs.Leaves.{Leaf}
 use Rattle.model_json.specs.Tree.{leaf_of}
 use Rattle.model_json.specs.Reading.{IsNamed}
-use Rattle.json_storage.specs.Found.{leaves_in, Joined, HasAdded}
+use Rattle.json_storage.specs.Found.{leaves_in, HasAdded}
 use Rattle.json_storage.specs.Reading.{ValueAdds, ItemAdds, MemberAdds}
 use Rattle.json_storage.specs.declared.found.Found.{Found}
-use Rattle.json_storage.proofs.AddLemmas.{value-once}
 
 -- ---- names
 
@@ -29,10 +28,6 @@ child-parts name at part is = ap (λ (n : Name). n.parts) is
 
 -- ---- elements
 
-pub item-none : (before : List Part) (index : ℕ) (d : Data) (found after : Found)
-    → (IsNamed before (array_part index) → ⊥) → HasAdded (ItemAdds before index d) found after false
-item-none before index d found after none = λ added more keys adds fill. none adds.is_named
-
 pub item-stops : (before at : List Part) (index : ℕ) (d : Data) (found after other : Found)
     → at ≡ before ++ array_part index ∷ [] → HasAdded (ValueAdds at d) found after false
     → HasAdded (ItemAdds before index d) found other false
@@ -46,44 +41,7 @@ grown found after added joined =
     let new = length-map (finite.entries after.keys) leaf_of in
     omega (arith, old, new, ap length joined, length-append (leaves_in found.keys) added)
 
-none-added : (added : List Leaf) → length added ≡ 0 → added ≡ []
-none-added [] e = refl
-none-added (leaf ∷ added) e = absurd (omega (arith, e))
-
-pub item-empty : (before at : List Part) (index : ℕ) (d : Data) (found after other : Found)
-    → at ≡ before ++ array_part index ∷ [] → Joined (ValueAdds at d) found after
-    → length (finite.entries after.keys) ≡ length (finite.entries found.keys)
-    → HasAdded (ItemAdds before index d) found other false
-item-empty before at index d found after other is j same = λ added more keys adds fill.
-    let count = grown found after j.added j.joined in
-    let nothing : j.added ≡ [] = none-added j.added (omega (arith, count, same)) in
-    adds.some (value-once at d added j.added (subst (λ parts. ValueAdds parts d added) (sym is) adds.value) j.adds ∙ nothing)
-
-some-added : (added : List Leaf) (old new : ℕ) → new ≡ old + length added → new ≢ old → added ≢ []
-some-added [] old new count differ = λ e. differ (omega (arith, count))
-some-added (leaf ∷ added) old new count differ = λ e. absurd cc
-
-pub item-joins : (before at : List Part) (index : ℕ) (d : Data) (found after : Found)
-    → at ≡ before ++ array_part index ∷ [] → IsNamed before (array_part index) → Joined (ValueAdds at d) found after
-    → length (finite.entries after.keys) ≢ length (finite.entries found.keys)
-    → HasAdded (ItemAdds before index d) found after true
-item-joins before at index d found after is named j differ = record {
-  added = j.added;
-  adds = record { is_named = named; value = subst (λ parts. ValueAdds parts d j.added) is j.adds; some = some-added j.added (length (finite.entries found.keys)) (length (finite.entries after.keys)) (grown found after j.added j.joined) differ };
-  joined = j.joined;
-  sound = j.sound;
-}
-
 -- ---- members
-
-pub member-unlike : (before : List Part) (part : Part) (d : Data) (found after : Found) → is_array_like part ≡ true
-    → HasAdded (MemberAdds before part d) found after false
-member-unlike before part d found after like =
-    λ added more keys adds fill. let clash = sym like ∙ adds.unlike in absurd cc
-
-pub member-none : (before : List Part) (part : Part) (d : Data) (found after : Found) → (IsNamed before part → ⊥)
-    → HasAdded (MemberAdds before part d) found after false
-member-none before part d found after none = λ added more keys adds fill. none adds.is_named
 
 pub member-value : (before at : List Part) (part : Part) (d : Data) (found after : Found) (b : Bool)
     → at ≡ before ++ part ∷ [] → is_array_like part ≡ false → IsNamed before part

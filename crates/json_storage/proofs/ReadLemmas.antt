@@ -1,5 +1,5 @@
 -- Bytes read as the keys that their object adds, or have no reading.
-use Rattle.std.specs.Prelude.{◌≡◌, ◌≢◌, ◌≤◌, ℕ, false, List, [], ◌++◌, length, map, None, Some}
+use Rattle.std.specs.Prelude.{◌≡◌, ◌≢◌, ◌≤◌, ℕ, false, List, [], ◌++◌, length, map, Some}
 use Rattle.std.proofs.Common.{sym, ap, subst, ◌∙◌, inl, inr}
 use Rattle.std.specs.List.{AllByRecursion}
 use Rattle.std.specs.Str.{IsUtf8}
@@ -57,11 +57,3 @@ bad-added bytes ms before after is none fails keys r =
     let adds : MembersAdd [] ms r.found = subst (λ m. MembersAdd [] m r.found) same (record { here = r.found; named = r.are_named; are = r.are_leaves; all = sym (under-nothing r.found) }) in
     let all : r.found ≡ leaves_in before.keys ++ (r.found ++ []) = sym (append-nil r.found) ∙ ap (λ l. l ++ (r.found ++ [])) (sym none) in
     fails r.found [] keys adds (subst (λ l. Fill l keys) all (record { all = r.all; few = r.few_parts; limited = r.limited }))
-
-pub bad-value : (bytes : List ℕ) (d : Data) → read bytes ≡ Some d → as_object d ≡ None → (keys : KeyMap)
-    → ReadsObject bytes keys → ⊥
-bad-value bytes d is none keys r =
-    none_is_no_some r.members (sym none ∙ ap as_object (some_is d (object r.members) (sym is ∙ r.is_object)))
-
-pub bad-text : (bytes : List ℕ) → (IsUtf8 bytes → read bytes ≡ None) → (keys : KeyMap) → ReadsObject bytes keys → ⊥
-bad-text bytes none keys r = none_is_no_some (object r.members) (sym (none r.utf8) ∙ r.is_object)

@@ -38,9 +38,6 @@ map-leaves : (xs ys : List (Name × Entry)) → map leaf_of (xs ++ ys) ≡ map l
 map-leaves [] ys = refl
 map-leaves (key ∷ xs) ys = ap (λ rest. leaf_of key ∷ rest) (map-leaves xs ys)
 
-weight-of : List (Name × Entry) → ℕ
-weight-of es = sum_by (λ (key : Name × Entry). weight_of_key key.0 key.1) es
-
 put-behind : (name : Name) (entry : Entry) (es : List (Name × Entry))
     → AllByRecursion (λ (key : Name × Entry). name_cmp key.0 name ≡ Less) es
     → put name_cmp name entry es ≡ es ++ (name, entry) ∷ []

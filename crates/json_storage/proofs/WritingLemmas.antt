@@ -1,5 +1,5 @@
 -- What the object of a map tells: which keys can be held, and the text of all.
-use Rattle.std.specs.Prelude.{◌≡◌, ◌≢◌, ℕ, ◌≤◌, ◌&&◌, ◌||◌, ◌==◌, Bool, true, false, not, List, [], ◌∷◌, length, map, None, Some, slice_get}
+use Rattle.std.specs.Prelude.{◌≡◌, ◌≢◌, ℕ, ◌≤◌, ◌&&◌, ◌||◌, ◌==◌, Bool, true, false, not, List, [], ◌∷◌, length, map, Some, slice_get}
 use Rattle.std.proofs.Common.{refl, sym, ap, ap₂, subst, ◌∙◌, cond, arith, eqb-true}
 use Rattle.std.specs.Bool.{Decides}
 use Rattle.std.specs.FinMap as finite
@@ -57,10 +57,6 @@ first-is (first ∷ parts) part is = ap is_array_like (some_is first part (sym i
 some-parts : (parts : List Part) (part : Part) → Some part ≡ slice_get parts 0 → parts ≢ []
 some-parts [] part is = absurd cc
 some-parts (first ∷ parts) part is = λ e. absurd cc
-
-pub no-first : (parts : List Part) → None ≡ slice_get parts 0 → parts ≡ []
-no-first [] none = refl
-no-first (part ∷ parts) none = absurd cc
 
 not-like : (b : Bool) → not b ≡ true → b ≡ false
 not-like true e = absurd cc

@@ -1,6 +1,6 @@
 -- A plain path: what stands between its slashes are the parts that it leads to, and it is spelled as it is.
 use Rattle.std.proofs.Common.{◌≡◌, ◌≢◌, ℕ, ◌+◌, ◌<◌, nat_lt, inl, inr, Bool, true, false, cond, not, ◌==◌, ◌&&◌, ◌||◌, List, [], ◌∷◌, ◌++◌, length, drop, codes, Some, None, option_and_then, refl, sym, ap, ap₂, subst, ◌∙◌, arith, append_assoc, length-append}
-use Rattle.std.specs.List.{AllByRecursion, flat_map, list_all, onto_first, position, position_or_len}
+use Rattle.std.specs.List.{AllByRecursion, flat_map, list_all, position, position_or_len}
 use Rattle.std.specs.Option.{option_map}
 use Rattle.std.specs.Str.{IsUtf8}
 use Rattle.std.proofs.lemmas.Bool.{and_left, and_parts, cases_Bool, cond-false, eqb-false, le-ltb, lt-ltb, ltb-false, ltb-true, ne_eqb, or_from, or_parts}
@@ -175,37 +175,6 @@ ahead false parts = drop 1 parts
 abbrev pub plain_rest : Bool → List ℕ → Bool
 plain_rest is_first bytes =
     list_all is_plain_byte bytes && list_all is_plain_part (ahead is_first (between_slashes bytes))
-
-in_pairs : (a b c d : Bool) → ((a && b) && (c && d)) ≡ ((a && c) && (b && d))
-in_pairs true true c d = refl
-in_pairs true false true d = refl
-in_pairs true false false d = refl
-in_pairs false b c d = refl
-
-rest_next : (is_first is_slash : Bool) (b : ℕ) (bytes : List ℕ) (parts : List Part)
-    → (list_all is_plain_byte (b ∷ bytes) && list_all is_plain_part (ahead is_first (cond is_slash ([] ∷ parts) (onto_first b parts))))
-    ≡ ((is_plain_byte b && (not is_first || (not is_slash && begins_plainly b))) && (list_all is_plain_byte bytes && list_all is_plain_part (ahead is_slash parts)))
-rest_next true true b bytes parts =
-    in_pairs (is_plain_byte b) (list_all is_plain_byte bytes) false (list_all is_plain_part parts)
-rest_next true false b bytes [] = in_pairs (is_plain_byte b) (list_all is_plain_byte bytes) (begins_plainly b) true
-rest_next true false b bytes (part ∷ parts) =
-    in_pairs (is_plain_byte b) (list_all is_plain_byte bytes) (begins_plainly b) (list_all is_plain_part parts)
-rest_next false true b bytes parts =
-    in_pairs (is_plain_byte b) (list_all is_plain_byte bytes) true (list_all is_plain_part parts)
-rest_next false false b bytes [] = in_pairs (is_plain_byte b) (list_all is_plain_byte bytes) true true
-rest_next false false b bytes (part ∷ parts) =
-    in_pairs (is_plain_byte b) (list_all is_plain_byte bytes) true (list_all is_plain_part parts)
-
--- the next byte fits, and what is left behind it is plain
-pub plain_rest-next : (is_first : Bool) (b : ℕ) (bytes : List ℕ)
-    → plain_rest is_first (b ∷ bytes)
-    ≡ ((is_plain_byte b && (not is_first || (not (b == 47) && begins_plainly b))) && plain_rest (b == 47) bytes)
-plain_rest-next is_first b bytes = rest_next is_first (b == 47) b bytes (between_slashes bytes)
-
--- at its end a path must not wait for the first byte of a part
-pub plain_rest-end : (is_first : Bool) → plain_rest is_first [] ≡ not is_first
-plain_rest-end true = refl
-plain_rest-end false = refl
 
 pub no_nul_in : (path : List ℕ) → is_plain path ≡ true → AllByRecursion (λ b. 0 < b) path
 no_nul_in path h = no_nuls path (plain_tests path h).0

@@ -54,10 +54,23 @@ unescaped-next b bytes =
 
 -- ---- forms
 
+-- one answer for each form of a raw part: none or a dot, two dots, a percent sign, one of these two or a dot escaped,
+-- and any other
+abbrev pub for_form : {A : Type 0} → List ℕ → A → A → A → A → A → A → A → A
+for_form raw stays up empty percent dot dots other =
+    cond ((length raw == 0) || is_text raw (codes ".")) stays
+    (cond (is_text raw (codes "..")) up
+    (cond (is_text raw (codes "%")) empty
+    (cond (is_text raw (92 ∷ codes "%")) percent
+    (cond (is_text raw (92 ∷ codes ".")) dot
+    (cond (is_text raw (92 ∷ codes "..")) dots other)))))
+
 -- what is told of each form of a raw part, by what is told of its reading
 pub by_form : {A : Type 0} (tell : Result (Option Move) ℕ → A) (raw : List ℕ)
     → tell (read_part raw)
-    ≡ cond ((length raw == 0) || is_text raw (codes ".")) (tell (Ok (Some Stays))) (cond (is_text raw (codes "..")) (tell (Ok (Some GoesUp))) (cond (is_text raw (codes "%")) (tell (Ok (Some (Adds [])))) (cond (is_text raw (92 ∷ codes "%")) (tell (Ok (Some (Adds (codes "%"))))) (cond (is_text raw (92 ∷ codes ".")) (tell (Ok (Some (Adds (codes "."))))) (cond (is_text raw (92 ∷ codes "..")) (tell (Ok (Some (Adds (codes ".."))))) (tell (result_map_both (λ text. option_map Adds (part_of_text text)) (λ at. at) (read_letters raw))))))))
+    ≡ for_form raw (tell (Ok (Some Stays))) (tell (Ok (Some GoesUp))) (tell (Ok (Some (Adds []))))
+    (tell (Ok (Some (Adds (codes "%"))))) (tell (Ok (Some (Adds (codes "."))))) (tell (Ok (Some (Adds (codes "..")))))
+    (tell (result_map_both (λ text. option_map Adds (part_of_text text)) (λ at. at) (read_letters raw)))
 by_form {A = A} tell raw =
     of ((length raw == 0) || is_text raw (codes ".")) _ _ _ (of (is_text raw (codes "..")) _ _ _ (of (is_text raw (codes "%")) _ _ _ (of (is_text raw (92 ∷ codes "%")) _ _ _ (of (is_text raw (92 ∷ codes ".")) _ _ _ (of (is_text raw (92 ∷ codes "..")) _ _ _ refl)))))
   where
@@ -67,11 +80,12 @@ by_form {A = A} tell raw =
 
 -- what a raw part means, where its form is known
 pub meaning-by_form : (raw : List ℕ)
-    → meaning raw
-    ≡ cond ((length raw == 0) || is_text raw (codes ".")) (Some Stays) (cond (is_text raw (codes "..")) (Some GoesUp) (cond (is_text raw (codes "%")) (Some (Adds [])) (cond (is_text raw (92 ∷ codes "%")) (Some (Adds (codes "%"))) (cond (is_text raw (92 ∷ codes ".")) (Some (Adds (codes "."))) (cond (is_text raw (92 ∷ codes "..")) (Some (Adds (codes ".."))) (option_map Adds (option_and_then part_of_text (unescaped raw))))))))
+    → meaning raw ≡ for_form raw (Some Stays) (Some GoesUp) (Some (Adds [])) (Some (Adds (codes "%")))
+    (Some (Adds (codes "."))) (Some (Adds (codes ".."))) (option_map Adds (option_and_then part_of_text (unescaped raw)))
 meaning-by_form raw =
     by_form (λ r. option_flatten (result_ok r)) raw
-    ∙ ap (λ m. cond ((length raw == 0) || is_text raw (codes ".")) (Some Stays) (cond (is_text raw (codes "..")) (Some GoesUp) (cond (is_text raw (codes "%")) (Some (Adds [])) (cond (is_text raw (92 ∷ codes "%")) (Some (Adds (codes "%"))) (cond (is_text raw (92 ∷ codes ".")) (Some (Adds (codes "."))) (cond (is_text raw (92 ∷ codes "..")) (Some (Adds (codes ".."))) m)))))) (of_text (read_letters raw))
+    ∙ ap (for_form raw (Some Stays) (Some GoesUp) (Some (Adds [])) (Some (Adds (codes "%"))) (Some (Adds (codes "."))) (Some (Adds (codes ".."))))
+    (of_text (read_letters raw))
   where
     of_text : (letters : Result Part ℕ)
         → option_flatten (result_ok (result_map_both (λ text. option_map Adds (part_of_text text)) (λ at. at) letters))

@@ -8,6 +8,10 @@ use Rattle.model_rules.proofs.NumberOnce.{IsBare, IsNumber-digits}
 use Rattle.model_rules.proofs.RangeOnce.{HasNoMinus, HasNoMinus-at, IsFront, IsNumber-front, no_minus_inside, one_front_alone, two_parts_once}
 use Rattle.range_check.specs.Items.{IsAlone, IsBetween}
 
+-- what a reader of an interval finds: the one that is there, or that none is
+abbrev Finds : (Interval → Type 0) → Option Interval → Type 0
+Finds Is r = MatchOption r ((interval : Interval) → Is interval → ⊥) Is
+
 number_from : (minus : Bool) (digits : List ℕ) (number : ℤ) → AreDigitsOf minus digits number
     → IsNumber (with_sign minus digits) number
 number_from minus digits number p = record { minus = minus; digits = digits; spelled = refl; number = p }
@@ -30,8 +34,7 @@ alone_item minus rest interval bare none (Between first last e f g o) =
     absurd (no_two minus rest first last none (IsNumber-front first interval.low f) e)
 
 one_number : (minus : Bool) (rest : List ℕ) (r : Option Interval) → IsBare minus rest → HasNoMinus rest
-    → MatchOption r ((interval : Interval) → IsAlone minus rest interval → ⊥) (IsAlone minus rest)
-    → MatchOption r ((interval : Interval) → IsItem (with_sign minus rest) interval → ⊥) (IsItem (with_sign minus rest))
+    → Finds (IsAlone minus rest) r → Finds (IsItem (with_sign minus rest)) r
 one_number minus rest None bare none p = λ interval i. p interval (alone_item minus rest interval bare none i)
 one_number minus rest (Some interval) bare none p =
     Single (number_from minus rest interval.low p.low) (number_from minus rest interval.high p.high)
@@ -64,9 +67,8 @@ between_item minus first last interval bare none (Between first' last' e f g o) 
     }
 
 two_numbers : (minus : Bool) (first last : List ℕ) (r : Option Interval) → IsBare minus (first ++ (45 ∷ last))
-    → HasNoMinus first
-    → MatchOption r ((interval : Interval) → IsBetween minus first last interval → ⊥) (IsBetween minus first last)
-    → MatchOption r ((interval : Interval) → IsItem (with_sign minus (first ++ (45 ∷ last))) interval → ⊥) (IsItem (with_sign minus (first ++ (45 ∷ last))))
+    → HasNoMinus first → Finds (IsBetween minus first last) r
+    → Finds (IsItem (with_sign minus (first ++ (45 ∷ last)))) r
 two_numbers minus first last None bare none p =
     λ interval i. p interval (between_item minus first last interval bare none i)
 two_numbers minus first last (Some interval) bare none p =
@@ -78,26 +80,26 @@ IsCut rest cut =
     MatchOption cut ((i : ℕ) → i < length rest → get_or rest i 0 ≢ 45) (λ x. (rest ≡ x.0.now ++ (45 ∷ x.1.now)) × ((i : ℕ) → i < length x.0.now → get_or x.0.now i 0 ≢ 45))
 
 pub uncut_item : (minus : Bool) (rest : List ℕ) (cut : Option (Bor (List ℕ) × Bor (List ℕ))) (r : Option Interval)
-    → IsBare minus rest → IsCut rest cut → cut ≡ None
-    → MatchOption r ((interval : Interval) → IsAlone minus rest interval → ⊥) (IsAlone minus rest)
-    → MatchOption r ((interval : Interval) → IsItem (with_sign minus rest) interval → ⊥) (IsItem (with_sign minus rest))
+    → IsBare minus rest → IsCut rest cut → cut ≡ None → Finds (IsAlone minus rest) r
+    → Finds (IsItem (with_sign minus rest)) r
 uncut_item minus rest cut r bare is none p =
     one_number minus rest r bare (HasNoMinus-at rest (subst (IsCut rest) none is)) p
 
 pub cut_item : (minus : Bool) (rest : List ℕ) (cut : Option (Bor (List ℕ) × Bor (List ℕ)))
     (x : Bor (List ℕ) × Bor (List ℕ)) (r : Option Interval) → IsBare minus rest → IsCut rest cut → cut ≡ Some x
-    → MatchOption r ((interval : Interval) → IsBetween minus x.0.now x.1.now interval → ⊥) (IsBetween minus x.0.now x.1.now)
-    → MatchOption r ((interval : Interval) → IsItem (with_sign minus rest) interval → ⊥) (IsItem (with_sign minus rest))
+    → Finds (IsBetween minus x.0.now x.1.now) r → Finds (IsItem (with_sign minus rest)) r
 cut_item minus rest cut x r bare is some p =
     let here : (rest ≡ x.0.now ++ (45 ∷ x.1.now)) × ((i : ℕ) → i < length x.0.now → get_or x.0.now i 0 ≢ 45) = subst (IsCut rest) some is in
     let whole = two_numbers minus x.0.now x.1.now r (subst (IsBare minus) here.0 bare) (HasNoMinus-at x.0.now here.1) p in
-    subst (λ t. MatchOption r ((interval : Interval) → IsItem (with_sign minus t) interval → ⊥) (IsItem (with_sign minus t))) (sym here.0) whole
+    subst (λ t. Finds (IsItem (with_sign minus t)) r) (sym here.0) whole
+
+-- the clause of `strip_prefix` at a minus
+abbrev IsStripped : List ℕ → Option (Bor (List ℕ)) → Type 0
+IsStripped item o = MatchOption o ((rest : List ℕ) → item ≢ 45 ∷ rest) (λ y. item ≡ 45 ∷ y.now)
 
 -- an item from which a minus was stripped is read behind it
 pub stripped_item : (item : List ℕ) (p : Option (Bor (List ℕ))) (x : Bor (List ℕ)) (r : Option Interval)
-    → MatchOption p ((rest : List ℕ) → item ≢ 45 ∷ rest) (λ y. item ≡ 45 ∷ y.now) → p ≡ Some x
-    → MatchOption r ((interval : Interval) → IsItem (45 ∷ x.now) interval → ⊥) (IsItem (45 ∷ x.now))
-    → MatchOption r ((interval : Interval) → IsItem item interval → ⊥) (IsItem item)
+    → IsStripped item p → p ≡ Some x → Finds (IsItem (45 ∷ x.now)) r → Finds (IsItem item) r
 stripped_item item p x r is some h =
-    let here : item ≡ 45 ∷ x.now = subst (λ o. MatchOption o ((rest : List ℕ) → item ≢ 45 ∷ rest) (λ y. item ≡ 45 ∷ y.now)) some is in
-    subst (λ t. MatchOption r ((interval : Interval) → IsItem t interval → ⊥) (IsItem t)) (sym here) h
+    let here : item ≡ 45 ∷ x.now = subst (IsStripped item) some is in
+    subst (λ t. Finds (IsItem t) r) (sym here) h

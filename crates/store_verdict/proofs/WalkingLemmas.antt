@@ -105,29 +105,31 @@ added q name changes change before after away there =
         ∙ sym (ap (λ o. option_or o (map.get changes q)) at.1)
 
 module _ (changes next : Changes) (q : Name) where
+  -- what becomes of the name: it was changed before, or is by the keys that are to come
+  abbrev comes_to : Changes → List (Name × Entry) → List (Name × Entry) → Option (Option Entry)
+  comes_to before had wanted = option_or (change_between had wanted q) (map.get before q)
+
   -- a name that is wanted no more
   pub removal : (had rest wanted : List (Name × Entry)) (e : Name × Entry) → had ≡ e ∷ rest
       → T (below_all name_cmp e.0 rest) → T (below_all name_cmp e.0 wanted) → next ≡ map.insert changes e.0 None
-      → option_or (change_between rest wanted q) (map.get next q)
-      ≡ option_or (change_between had wanted q) (map.get changes q)
+      → comes_to next rest wanted ≡ comes_to changes had wanted
   removal had rest wanted e is below beside made =
-      ap (λ m. option_or (change_between rest wanted q) (map.get m q)) made
+      ap (λ m. comes_to m rest wanted) made
       ∙ added q e.0 changes None (change_between (e ∷ rest) wanted q) (change_between rest wanted q)
       (λ other. sym (ap (λ o. change_of o (find name_cmp q wanted)) (passed q e rest other)))
       (λ tied same. (ap₂ change_of (gone q e.0 rest same below) (gone q e.0 wanted same beside), ap₂ change_of (here q e rest tied) (gone q e.0 wanted same beside)))
-      ∙ ap (λ l. option_or (change_between l wanted q) (map.get changes q)) (sym is)
+      ∙ ap (λ l. comes_to changes l wanted) (sym is)
 
   -- a name that is new
   pub entry : (had wanted rest : List (Name × Entry)) (e : Name × Entry) → wanted ≡ e ∷ rest
       → T (below_all name_cmp e.0 rest) → T (below_all name_cmp e.0 had) → next ≡ map.insert changes e.0 (Some e.1)
-      → option_or (change_between had rest q) (map.get next q)
-      ≡ option_or (change_between had wanted q) (map.get changes q)
+      → comes_to next had rest ≡ comes_to changes had wanted
   entry had wanted rest e is below beside made =
-      ap (λ m. option_or (change_between had rest q) (map.get m q)) made
+      ap (λ m. comes_to m had rest) made
       ∙ added q e.0 changes (Some e.1) (change_between had (e ∷ rest) q) (change_between had rest q)
       (λ other. sym (ap (λ o. change_of (find name_cmp q had) o) (passed q e rest other)))
       (λ tied same. (ap₂ change_of (gone q e.0 had same beside) (gone q e.0 rest same below), ap₂ change_of (gone q e.0 had same beside) (here q e rest tied)))
-      ∙ ap (λ l. option_or (change_between had l q) (map.get changes q)) (sym is)
+      ∙ ap (λ l. comes_to changes had l) (sym is)
 
   -- a name that both have
   module _ (name : Name) (old new : Entry) (had_rest wanted_rest : List (Name × Entry)) (below : T (below_all name_cmp name had_rest)) (beside : T (below_all name_cmp name wanted_rest)) where
@@ -163,8 +165,7 @@ module _ (changes next : Changes) (q : Name) where
       → had ≡ (name, old) ∷ had_rest → wanted ≡ (name, new) ∷ wanted_rest → T (below_all name_cmp name had_rest)
       → T (below_all name_cmp name wanted_rest)
       → next ≡ cond (same_entry old new) changes (map.insert changes name (Some new))
-      → option_or (change_between had_rest wanted_rest q) (map.get next q)
-      ≡ option_or (change_between had wanted q) (map.get changes q)
+      → comes_to next had_rest wanted_rest ≡ comes_to changes had wanted
   changed had had_rest wanted wanted_rest name old new is wanted_is below beside made =
       kept_or_changed name old new had_rest wanted_rest below beside (same_entry old new) refl made
-      ∙ ap₂ (λ xs ys. option_or (change_between xs ys q) (map.get changes q)) (sym is) (sym wanted_is)
+      ∙ ap₂ (comes_to changes) (sym is) (sym wanted_is)

@@ -29,6 +29,6 @@ members_with_arrays-loop-key-preserved t c =
       done ++ e ∷ [],
       all ∙ sym (append_assoc done (e ∷ []) left),
       ap members_view c.in_ok-insert.ensures.entries
-      ∙ members_view-insert_entry l.made.entries c.in_ok-name.name c.in_ok-with_arrays.field-0
+          ∙ members_view-insert_entry l.made.entries c.in_ok-name.name c.in_ok-with_arrays.field-0
           ∙ each-last with_arrays members_with_arrays arrays-each done e left (members_view l.made.entries) (string_bytes c.in_ok-name.name) (view c.in_ok-with_arrays.field-0) sorted l.invariant.2 named c.in_ok-with_arrays.ensures,
     )
